@@ -71,7 +71,8 @@ pub fn why(a: &Params, b: &Params) -> Option<Datum>
 
 // The least kind at which they conflict.
 fn least_kind(a: &Params, b: &Params) -> Option<Kind>
-    ensures { IsLeastAt (λ kind. ConflictAt a.now b.now (OfKind kind)) (option_map kind_number result) }
+    ensures { IsLeastAt (λ kind. ConflictAt a.now b.now (OfKind kind)) (option_map kind_number
+        result) }
 {
     are_known_kinds(a.queries());
     for kind in Kind::every() {
@@ -92,7 +93,9 @@ fn conflict_at_kind(a: &Params, b: &Params, kind: Kind) -> bool
 
 // Whether some of these footprints meets some of the others at the kind.
 fn any_meets_at(footprints: &[Footprint], others: &[Footprint], kind: Kind) -> bool
-    ensures { result ≡ list_any (λ f. list_any (λ g. footprints_meet_at f g (kind_number kind)) others.now) footprints.now }
+    ensures { result
+        ≡ list_any (λ f. list_any (λ g. footprints_meet_at f g (kind_number kind)) others.now)
+        footprints.now }
 {
     footprints
         .iter()
@@ -101,7 +104,8 @@ fn any_meets_at(footprints: &[Footprint], others: &[Footprint], kind: Kind) -> b
 
 // Whether the footprint meets some of the others at the kind.
 fn meets_any_at(footprint: &Footprint, others: &[Footprint], kind: Kind) -> bool
-    ensures { result ≡ list_any (λ g. footprints_meet_at footprint.now g (kind_number kind)) others.now }
+    ensures { result
+        ≡ list_any (λ g. footprints_meet_at footprint.now g (kind_number kind)) others.now }
 {
     others.iter().any(|other| footprint.meets_at(other, kind))
 }
@@ -125,7 +129,8 @@ fn are_known_kinds_of(query: &Query)
 
 // The least resource at which they conflict.
 fn least_resource(a: &Params, b: &Params) -> Option<Res>
-    ensures { IsLeastAt (λ number. ConflictAt a.now b.now (OfResource number)) (option_map res_number result) }
+    ensures { IsLeastAt (λ number. ConflictAt a.now b.now (OfResource number)) (option_map
+        res_number result) }
 {
     are_known_resources(a);
     for resource in Res::ALL {
@@ -162,7 +167,8 @@ fn are_known_resources(a: &Params)
 
 // The least event kind at which they conflict.
 fn least_event(a: &Params, b: &Params) -> Option<Event>
-    ensures { IsLeastAt (λ kind. ConflictAt a.now b.now (OfEvent kind)) (option_map event_number result) }
+    ensures { IsLeastAt (λ kind. ConflictAt a.now b.now (OfEvent kind)) (option_map event_number
+        result) }
 {
     are_known_events(a);
     for event in Event::ALL {

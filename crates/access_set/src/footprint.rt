@@ -144,10 +144,18 @@ impl Words {
 
     // The words with one more term.
     fn with_term(self, term: Term) -> Self
-        ensures touched { (kind : ℕ) → has_bit result.touched kind ≡ (is_number kind (touched (term_of term)) || has_bit self.touched kind) }
-        ensures written { (kind : ℕ) → has_bit result.written kind ≡ (is_number kind (written (term_of term)) || has_bit self.written kind) }
-        ensures required { (kind : ℕ) → has_bit result.required kind ≡ (is_number kind (required (term_of term)) || has_bit self.required kind) }
-        ensures excluded { (kind : ℕ) → has_bit result.excluded kind ≡ (is_number kind (excluded (term_of term)) || has_bit self.excluded kind) }
+        ensures touched { (kind : ℕ)
+            → has_bit result.touched kind
+            ≡ (is_number kind (touched (term_of term)) || has_bit self.touched kind) }
+        ensures written { (kind : ℕ)
+            → has_bit result.written kind
+            ≡ (is_number kind (written (term_of term)) || has_bit self.written kind) }
+        ensures required { (kind : ℕ)
+            → has_bit result.required kind
+            ≡ (is_number kind (required (term_of term)) || has_bit self.required kind) }
+        ensures excluded { (kind : ℕ)
+            → has_bit result.excluded kind
+            ≡ (is_number kind (excluded (term_of term)) || has_bit self.excluded kind) }
     {
         Words {
             touched: with_kind(self.touched, term.touched()),
@@ -205,7 +213,8 @@ impl Way {
 
 // The alternatives of the `or` terms, term by term.
 fn choices_of(alloc: Global, terms: &[Term]) -> Result<SmallVec<Alternatives, 1>, AllocError>
-    ensures { IfOk result (λ list. map alternatives_of list.items ≡ choices (map term_of terms.now)) }
+    ensures { IfOk result (λ list. map alternatives_of list.items
+        ≡ choices (map term_of terms.now)) }
 {
     let mut list = SmallVec::new(alloc);
     for term in terms {
@@ -219,7 +228,8 @@ fn choices_of(alloc: Global, terms: &[Term]) -> Result<SmallVec<Alternatives, 1>
 // Whether an entity that matches both queries may have a shared kind, in some way that goes on from this one with an alternative of
 // each choice.
 fn met_in(shared: u64, way: Way, choices: &[Alternatives], more: &[Alternatives]) -> bool
-    ensures { result ≡ met_in shared way (map alternatives_of choices.now ++ map alternatives_of more.now) }
+    ensures { result
+        ≡ met_in shared way (map alternatives_of choices.now ++ map alternatives_of more.now) }
 {
     let Some((alternatives, rest)) = choices.split_first() else {
         if more.is_empty() {
@@ -237,7 +247,11 @@ fn met_in(shared: u64, way: Way, choices: &[Alternatives], more: &[Alternatives]
 
 // Whether an alternative of each choice holds of the set of kinds of a word.
 fn is_chosen_of_each(choices: &[Alternatives], set: u64) -> bool
-    ensures { result ≡ list_all (λ alternatives. list_any (λ a. holds_in (has_bit set) (alternative_of a)) (listed alternatives)) choices.now }
+    ensures { result
+        ≡ list_all
+        (λ alternatives. list_any (λ a. holds_in (has_bit set) (alternative_of a)) (listed
+        alternatives))
+        choices.now }
 {
     choices
         .iter()
@@ -273,7 +287,9 @@ fn has_kind(set: u64, kind: Kind) -> bool
 
 // The word with the bit of the kind, where there is one.
 fn with_kind(word: u64, kind: Option<Kind>) -> u64
-    ensures { (number : ℕ) → has_bit result number ≡ (is_number number (option_map kind_number kind) || has_bit word number) }
+    ensures { (number : ℕ)
+        → has_bit result number
+        ≡ (is_number number (option_map kind_number kind) || has_bit word number) }
 {
     prove_kinds_apart();
     match kind {

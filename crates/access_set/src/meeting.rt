@@ -32,7 +32,9 @@ fn meet_at_kind_in(a: &Params, b: &Params, sets: &[u32]) -> bool
 
 // Whether some of these footprints meets some of the others by one of the sets.
 fn any_meets_in(footprints: &[Footprint], others: &[Footprint], sets: &[u32]) -> bool
-    ensures { result ≡ list_any (λ f. list_any (λ g. list_any (footprints_meet_by f g) sets.now) others.now) footprints.now }
+    ensures { result
+        ≡ list_any (λ f. list_any (λ g. list_any (footprints_meet_by f g) sets.now) others.now)
+        footprints.now }
 {
     footprints
         .iter()
@@ -41,7 +43,8 @@ fn any_meets_in(footprints: &[Footprint], others: &[Footprint], sets: &[u32]) ->
 
 // Whether the footprint meets some of the others by one of the sets.
 fn meets_any_in(footprint: &Footprint, others: &[Footprint], sets: &[u32]) -> bool
-    ensures { result ≡ list_any (λ g. list_any (footprints_meet_by footprint.now g) sets.now) others.now }
+    ensures { result
+        ≡ list_any (λ g. list_any (footprints_meet_by footprint.now g) sets.now) others.now }
 {
     others.iter().any(|other| meets_in(footprint, other, sets))
 }

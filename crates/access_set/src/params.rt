@@ -51,7 +51,14 @@ impl Model for Params {
 
     ghost Value = { access.Params };
 
-    ghost view = { λ p. record { queries = p.queries.items; res = map res_number p.res.items; res_mut = map res_number p.res_mut.items; reads = map event_number p.reads.items; writes = map event_number p.writes.items; spawns = p.spawns } };
+    ghost view = { λ p. record {
+      queries = p.queries.items;
+      res = map res_number p.res.items;
+      res_mut = map res_number p.res_mut.items;
+      reads = map event_number p.reads.items;
+      writes = map event_number p.writes.items;
+      spawns = p.spawns;
+    } };
 
     ghost invariant = { λ p. AreFootprints p.queries.items p.footprints.items };
 }
@@ -123,7 +130,8 @@ impl Params {
 
     /// Adds a query after the others. Where an allocation fails the parameters stay as they were.
     pub fn add_query(&mut self, query: Query) -> Result<(), AllocError>
-        ensures ok { OnOk result (self.new ≡ record self.old { queries = self.old.queries ++ query ∷ [] }) }
+        ensures ok { OnOk result (self.new
+            ≡ record self.old { queries = self.old.queries ++ query ∷ [] }) }
         ensures err { OnErr result (self.new ≡ self.old) }
     {
         let alloc = *self.queries.allocator();
@@ -137,7 +145,8 @@ impl Params {
 
     /// Adds a resource that is read (`Res`) after the others. Where an allocation fails the parameters stay as they were.
     pub fn add_res(&mut self, resource: Res) -> Result<(), AllocError>
-        ensures ok { OnOk result (self.new ≡ record self.old { res = self.old.res ++ res_number resource ∷ [] }) }
+        ensures ok { OnOk result (self.new
+            ≡ record self.old { res = self.old.res ++ res_number resource ∷ [] }) }
         ensures err { OnErr result (self.new ≡ self.old) }
     {
         self.res.push(resource)?;
@@ -146,7 +155,8 @@ impl Params {
 
     /// Adds a resource that is written (`ResMut`) after the others. Where an allocation fails the parameters stay as they were.
     pub fn add_res_mut(&mut self, resource: Res) -> Result<(), AllocError>
-        ensures ok { OnOk result (self.new ≡ record self.old { res_mut = self.old.res_mut ++ res_number resource ∷ [] }) }
+        ensures ok { OnOk result (self.new
+            ≡ record self.old { res_mut = self.old.res_mut ++ res_number resource ∷ [] }) }
         ensures err { OnErr result (self.new ≡ self.old) }
     {
         self.res_mut.push(resource)?;
@@ -156,7 +166,8 @@ impl Params {
     /// Adds a reader of events of a kind after the others. A kind that is named twice has two readers. Where an allocation fails the parameters
     /// stay as they were.
     pub fn add_reads(&mut self, event: Event) -> Result<(), AllocError>
-        ensures ok { OnOk result (self.new ≡ record self.old { reads = self.old.reads ++ event_number event ∷ [] }) }
+        ensures ok { OnOk result (self.new
+            ≡ record self.old { reads = self.old.reads ++ event_number event ∷ [] }) }
         ensures err { OnErr result (self.new ≡ self.old) }
     {
         self.reads.push(event)?;
@@ -165,7 +176,8 @@ impl Params {
 
     /// Adds a writer of events of a kind after the others. Where an allocation fails the parameters stay as they were.
     pub fn add_writes(&mut self, event: Event) -> Result<(), AllocError>
-        ensures ok { OnOk result (self.new ≡ record self.old { writes = self.old.writes ++ event_number event ∷ [] }) }
+        ensures ok { OnOk result (self.new
+            ≡ record self.old { writes = self.old.writes ++ event_number event ∷ [] }) }
         ensures err { OnErr result (self.new ≡ self.old) }
     {
         self.writes.push(event)?;

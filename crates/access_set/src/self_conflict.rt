@@ -43,7 +43,8 @@ fn two_meet(params: &Params) -> bool
 
 // Whether one of these that writes meets another.
 fn has_meeting_writer(footprints: &[Footprint]) -> bool
-    ensures { MatchBool result (HasMeetingWriter footprints.now) (HasMeetingWriter footprints.now → ⊥) }
+    ensures { MatchBool result (HasMeetingWriter footprints.now) (HasMeetingWriter footprints.now
+        → ⊥) }
 {
     for number in 0..footprints.len() {
         if footprints[number].is_writing() && meets_beside(footprints, number) {
@@ -56,7 +57,9 @@ fn has_meeting_writer(footprints: &[Footprint]) -> bool
 // Whether one of these meets another.
 fn meets_beside(footprints: &[Footprint], number: usize) -> bool
     requires { number < length footprints.now }
-    ensures { MatchBool result (MeetsBeside footprints.now number) (MeetsBeside footprints.now number → ⊥) }
+    ensures { MatchBool result (MeetsBeside footprints.now number) (MeetsBeside footprints.now
+        number
+        → ⊥) }
 {
     for other in 0..footprints.len() {
         if number != other && footprints[number].meets(&footprints[other]) {
@@ -93,7 +96,8 @@ fn has_resource_twice(resources: &[Res]) -> bool
 // Whether one of the written resources is read.
 #[tactic(auto, using(crate::proofs::Meets::any_of_numbers))]
 fn any_resource_read(written: &[Res], read: &[Res]) -> bool
-    ensures { result ≡ list_any (λ n. has n (map res_number read.now)) (map res_number written.now) }
+    ensures { result
+        ≡ list_any (λ n. has n (map res_number read.now)) (map res_number written.now) }
 {
     any_resource_of(written, read)
 }
@@ -132,14 +136,16 @@ fn has_event_twice(events: &[Event]) -> bool
 // Whether one of the written event kinds is read.
 #[tactic(auto, using(crate::proofs::Meets::any_of_numbers))]
 fn any_event_read(written: &[Event], read: &[Event]) -> bool
-    ensures { result ≡ list_any (λ n. has n (map event_number read.now)) (map event_number written.now) }
+    ensures { result
+        ≡ list_any (λ n. has n (map event_number read.now)) (map event_number written.now) }
 {
     any_event_of(written, read)
 }
 
 // Whether one of the written event kinds is read, kind by kind.
 fn any_event_of(written: &[Event], read: &[Event]) -> bool
-    ensures { result ≡ list_any (λ x. has (event_number x) (map event_number read.now)) written.now }
+    ensures { result
+        ≡ list_any (λ x. has (event_number x) (map event_number read.now)) written.now }
 {
     written.iter().any(|event| has_event(read, *event))
 }

@@ -70,7 +70,9 @@ pub fn is_settled(built: &Built) -> bool
 
 // Whether something races with a system.
 fn has_races(built: &Built) -> bool
-    ensures { IsTrue result ↔ ((n : ℕ) × (n < length built.now.systems) × ((first : Racer) × IsRace built.now first n)) }
+    ensures { IsTrue result
+        ↔ ((n : ℕ) × (n < length built.now.systems)
+        × ((first : Racer) × IsRace built.now first n)) }
 {
     for system in 0..built.count() {
         if has_race(built, system) {
@@ -82,7 +84,9 @@ fn has_races(built: &Built) -> bool
 
 // Whether a system has commands.
 fn has_spawners(built: &Built) -> bool
-    ensures { IsTrue result ↔ ((n : ℕ) × (n < length built.now.systems) × (is_some (params_of built.now n).spawns ≡ true)) }
+    ensures { IsTrue result
+        ↔ ((n : ℕ) × (n < length built.now.systems)
+        × (is_some (params_of built.now n).spawns ≡ true)) }
 {
     for system in 0..built.count() {
         if built.params(system).spawns().is_some() {

@@ -68,7 +68,8 @@ pub fn put_component(
 
 /// Removes the component of the kind with this number from those of a row, where it has one.
 pub fn take_component(components: &mut Components, number: u32)
-    ensures { map component_of components.new.items ≡ remove_component number (map component_of components.old.items) }
+    ensures { map component_of components.new.items
+        ≡ remove_component number (map component_of components.old.items) }
 {
     match index_of(components, number) {
         None => {}

@@ -54,7 +54,10 @@ impl Model for Entities {
 
     ghost Value = { EntitiesValue };
 
-    ghost view = { λ s. record { slots = with_rows (row_of s.archetypes.rows) s.book; layout = s.archetypes.layout } };
+    ghost view = { λ s. record {
+      slots = with_rows (row_of s.archetypes.rows) s.book;
+      layout = s.archetypes.layout;
+    } };
 
     ghost invariant = { λ s. HasRows s.book s.archetypes };
 }
@@ -89,7 +92,8 @@ impl Entities {
 
     /// The generation and the status of an index, none past the end.
     pub fn get(&self, index: u32) -> Option<SlotState>
-        ensures { MatchOption result (length self.now.slots ≤ index) (λ slot. slot ≡ value_of_slot (slot_at self.now.slots index)) }
+        ensures { MatchOption result (length self.now.slots ≤ index) (λ slot. slot
+            ≡ value_of_slot (slot_at self.now.slots index)) }
     {
         if index >= self.book.len() {
             return None;
@@ -108,7 +112,8 @@ impl Entities {
     /// The living entity of the least index from this one on.
     pub fn next_living(&self, from: u32) -> Option<Entity>
         ensures lives { IfSome result (λ e. (from ≤ e.index) × (is_alive self.now.slots e ≡ true)) }
-        ensures least { IfSome result (λ e. (k : ℕ) → from ≤ k → k < e.index → lives_at self.now.slots k ≡ false) }
+        ensures least { IfSome result (λ e. (k : ℕ) → from ≤ k → k < e.index
+            → lives_at self.now.slots k ≡ false) }
         ensures none { IfNone result ((k : ℕ) → from ≤ k → lives_at self.now.slots k ≡ false) }
     {
         self.book.next_living(from)
@@ -149,7 +154,8 @@ impl Entities {
     /// The component of the kind with this number, where the entity lives and has one.
     pub fn find(&self, e: Entity, number: u32) -> Option<StampedValue>
         requires { AreAllHome self.now.layout }
-        ensures cell { option_map (λ s. (component_of s).cell) result ≡ cell_of self.now.slots e number }
+        ensures cell { option_map (λ s. (component_of s).cell) result
+            ≡ cell_of self.now.slots e number }
         ensures number { IfSome result (λ s. stamped_number s ≡ number) }
     {
         if !self.lives(e) {
@@ -170,9 +176,12 @@ impl Entities {
 
     /// The column of a kind of an archetype, which is at home.
     pub fn column(&self, archetype: usize, kind: Kind) -> &StampedColumn
-        requires { column_home (archetype_at self.now.layout archetype) (kind_number kind) ≡ Some true }
+        requires { column_home (archetype_at self.now.layout archetype) (kind_number kind)
+            ≡ Some true }
         ensures kind { result.now.kind ≡ kind_number kind }
-        ensures cells { map (λ cell. Some cell) result.now.cells ≡ column_cells self.now.slots (archetype_at self.now.layout archetype).entities (kind_number kind) }
+        ensures cells { map (λ cell. Some cell) result.now.cells
+            ≡ column_cells self.now.slots (archetype_at self.now.layout archetype).entities
+            (kind_number kind) }
     {
         // Tells who lives.
         self.archetypes.prove_laid();
@@ -186,10 +195,17 @@ impl Entities {
         archetype: usize,
         kind: Kind,
     ) -> Result<StampedColumn, AllocError>
-        requires { column_home (archetype_at self.old.layout archetype) (kind_number kind) ≡ Some true }
+        requires { column_home (archetype_at self.old.layout archetype) (kind_number kind)
+            ≡ Some true }
         ensures kind { IfOk result (λ column. column.kind ≡ kind_number kind) }
-        ensures cells { IfOk result (λ column. map (λ cell. Some cell) column.cells ≡ column_cells self.old.slots (archetype_at self.old.layout archetype).entities (kind_number kind)) }
-        ensures away { OnOk result (self.new ≡ record self.old { layout = with_home false archetype (kind_number kind) self.old.layout }) }
+        ensures cells { IfOk result (λ column. map (λ cell. Some cell) column.cells
+            ≡ column_cells self.old.slots (archetype_at self.old.layout archetype).entities
+            (kind_number kind)) }
+        ensures away { OnOk result (self.new
+            ≡ record self.old {
+              layout = with_home false archetype (kind_number kind)
+                  self.old.layout;
+            }) }
         ensures err { OnErr result (self.new ≡ self.old) }
     {
         // Tells who lives.
@@ -204,9 +220,12 @@ impl Entities {
         archetype: usize,
         kind: Kind,
     ) -> Result<Arc<StampedColumn, Global>, AllocError>
-        requires { column_home (archetype_at self.old.layout archetype) (kind_number kind) ≡ Some true }
+        requires { column_home (archetype_at self.old.layout archetype) (kind_number kind)
+            ≡ Some true }
         ensures kind { IfOk result (λ column. (arc_value column).kind ≡ kind_number kind) }
-        ensures cells { IfOk result (λ column. map (λ cell. Some cell) (arc_value column).cells ≡ column_cells self.old.slots (archetype_at self.old.layout archetype).entities (kind_number kind)) }
+        ensures cells { IfOk result (λ column. map (λ cell. Some cell) (arc_value column).cells
+            ≡ column_cells self.old.slots (archetype_at self.old.layout archetype).entities
+            (kind_number kind)) }
         ensures same { self.new ≡ self.old }
     {
         // Tells who lives.
@@ -222,7 +241,8 @@ impl Entities {
         archetype: usize,
     ) -> Result<Arc<Vec<Entity>, Global>, AllocError>
         requires { archetype < length self.old.layout }
-        ensures entities { IfOk result (λ list. (arc_value list).items ≡ (archetype_at self.old.layout archetype).entities) }
+        ensures entities { IfOk result (λ list. (arc_value list).items
+            ≡ (archetype_at self.old.layout archetype).entities) }
         ensures same { self.new ≡ self.old }
     {
         self.archetypes.share_entities(alloc, archetype)
@@ -230,9 +250,13 @@ impl Entities {
 
     /// Puts a column that was taken back, with as many cells as the archetype has entities. It allocates nothing.
     pub fn put_column(&mut self, archetype: usize, column: StampedColumn)
-        requires away { column_home (archetype_at self.old.layout archetype) column.kind ≡ Some false }
-        requires same_length { length column.cells ≡ length (archetype_at self.old.layout archetype).entities }
-        ensures slots { self.new.slots ≡ slots_with (archetype_at self.old.layout archetype).entities column.kind column.cells self.old.slots }
+        requires away { column_home (archetype_at self.old.layout archetype) column.kind
+            ≡ Some false }
+        requires same_length { length column.cells
+            ≡ length (archetype_at self.old.layout archetype).entities }
+        ensures slots { self.new.slots
+            ≡ slots_with (archetype_at self.old.layout archetype).entities column.kind column.cells
+            self.old.slots }
         ensures layout { self.new.layout ≡ with_home true archetype column.kind self.old.layout }
     {
         self.archetypes.put_column(archetype, column);
@@ -240,10 +264,14 @@ impl Entities {
 
     /// The archetypes that have entities.
     pub fn archetypes(&self, alloc: Global) -> Result<Vec<ArchetypeView<'_>>, AllocError>
-        ensures kinds { IfOk result (λ views. map kinds_seen views.items ≡ map (λ a. a.kinds) self.now.layout) }
-        ensures entities { IfOk result (λ views. map entities_seen views.items ≡ map (λ a. a.entities) self.now.layout) }
-        ensures apart { IfOk result (λ views. AllByRecursion (λ view. AreRowsApart (entities_seen view)) views.items) }
-        ensures order { IfOk result (λ views. AllByRecursion (λ view. OrdersRows (entities_seen view) view.order) views.items) }
+        ensures kinds { IfOk result (λ views. map kinds_seen views.items
+            ≡ map (λ a. a.kinds) self.now.layout) }
+        ensures entities { IfOk result (λ views. map entities_seen views.items
+            ≡ map (λ a. a.entities) self.now.layout) }
+        ensures apart { IfOk result (λ views. AllByRecursion
+            (λ view. AreRowsApart (entities_seen view)) views.items) }
+        ensures order { IfOk result (λ views. AllByRecursion
+            (λ view. OrdersRows (entities_seen view) view.order) views.items) }
     {
         self.archetypes.archetypes(alloc)
     }
@@ -252,7 +280,8 @@ impl Entities {
     pub fn archetype(&self, archetype: usize) -> ArchetypeView<'_>
         requires { archetype < length self.now.layout }
         ensures kinds { kinds_seen result ≡ (archetype_at self.now.layout archetype).kinds }
-        ensures entities { entities_seen result ≡ (archetype_at self.now.layout archetype).entities }
+        ensures entities { entities_seen result
+            ≡ (archetype_at self.now.layout archetype).entities }
         ensures apart { AreRowsApart (entities_seen result) }
         ensures order { OrdersRows (entities_seen result) result.order }
     {
@@ -278,7 +307,8 @@ impl Entities {
     /// Lists the archetypes that fit the shape of a number, by their numbers in rising order, in the room of a list. Whether a shape of this
     /// number is kept: where none is the list means nothing.
     pub fn fitting(&self, shape: usize, found: &mut Vec<usize>) -> Result<bool, AllocError>
-        ensures { IfOk result (λ kept. IsTrue kept → found.new.items ≡ fitting_from shape 0 self.now.layout) }
+        ensures { IfOk result (λ kept. IsTrue kept
+            → found.new.items ≡ fitting_from shape 0 self.now.layout) }
     {
         self.archetypes.fitting(shape, found)
     }
@@ -303,7 +333,8 @@ impl Entities {
         ensures granted { OnOk result (self.new.slots ≡ ids.grant count self.old.slots) }
         ensures each { IfOk result (λ granted. All (IsGranted self.new.slots) granted.items) }
         ensures apart { IfOk result (λ granted. AreApart granted.items) }
-        ensures spent { IsErrOf result GrantFault.IdsSpent ↔ (ids.has_ids count self.old.slots ≡ false) }
+        ensures spent { IsErrOf result GrantFault.IdsSpent
+            ↔ (ids.has_ids count self.old.slots ≡ false) }
         ensures layout { self.new.layout ≡ self.old.layout }
         ensures err { OnErr result (self.new ≡ self.old) }
     {
@@ -319,9 +350,11 @@ impl Entities {
         counts: &[u32],
         granted: &mut Vec<Vec<Entity>>,
     ) -> Result<(), GrantFault>
-        ensures ok { OnOk result (map (λ list. list.items) granted.new.items ≡ ids.ids_of_each counts.now self.old.slots) }
+        ensures ok { OnOk result (map (λ list. list.items) granted.new.items
+            ≡ ids.ids_of_each counts.now self.old.slots) }
         ensures granted { OnOk result (self.new.slots ≡ ids.grant_each counts.now self.old.slots) }
-        ensures spent { IsErrOf result GrantFault.IdsSpent ↔ (ids.has_ids_for_each counts.now self.old.slots ≡ false) }
+        ensures spent { IsErrOf result GrantFault.IdsSpent
+            ↔ (ids.has_ids_for_each counts.now self.old.slots ≡ false) }
         ensures layout { self.new.layout ≡ self.old.layout }
         ensures err { OnErr result (self.new ≡ self.old) }
     {
@@ -376,7 +409,8 @@ impl Entities {
     /// Lists the components of an index, in rising kinds, in the room of a list.
     pub fn components(&self, index: u32, components: &mut Components) -> Result<(), AllocError>
         requires { AreAllHome self.now.layout }
-        ensures { OnOk result (map component_of components.new.items ≡ row_at self.now.slots index) }
+        ensures { OnOk result (map component_of components.new.items
+            ≡ row_at self.now.slots index) }
     {
         self.archetypes.components(index, components)
     }

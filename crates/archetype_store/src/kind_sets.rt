@@ -31,7 +31,8 @@ fn numbers_of(
     views: &[ArchetypeView<'_>],
     without: bool,
 ) -> Result<Vec<u32>, AllocError>
-    ensures numbers { IfOk result (λ numbers. numbers.items ≡ first_numbers without ++ map number_seen views.now) }
+    ensures numbers { IfOk result (λ numbers. numbers.items
+        ≡ first_numbers without ++ map number_seen views.now) }
     ensures below { IfOk result (λ numbers. AllByRecursion (λ n. n < set_limit) numbers.items) }
 {
     let mut numbers = Vec::new(alloc);
@@ -51,7 +52,8 @@ pub(crate) fn sets_of(
     views: &[ArchetypeView<'_>],
     without: bool,
 ) -> Result<KindSets, AllocError>
-    ensures { IfOk result (λ sets. sets ≡ numbers_with (map kinds_seen views.now) (first_numbers without)) }
+    ensures { IfOk result (λ sets. sets
+        ≡ numbers_with (map kinds_seen views.now) (first_numbers without)) }
 {
     let mut numbers = numbers_of(alloc, views, without)?;
     numbers.sort_unstable();

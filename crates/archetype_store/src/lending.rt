@@ -19,7 +19,8 @@ pub(crate) fn column_at(tables: &[Table], table: usize, kind: Kind) -> &StampedC
     requires within { table < length tables.now }
     requires home { IsHome (standing_of (table_at tables.now table) (kind_number kind)) }
     ensures kind { result.now.kind ≡ kind_number kind }
-    ensures cells { map (λ cell. Some cell) result.now.cells ≡ cells_at tables.now table (kind_number kind) }
+    ensures cells { map (λ cell. Some cell) result.now.cells
+        ≡ cells_at tables.now table (kind_number kind) }
     ensures apart { AreApart (map (λ row. row.entity) (table_at tables.now table).rows) }
 {
     // Tells that no entity is there twice.
@@ -37,9 +38,12 @@ pub(crate) fn lend_at(
     requires within { table < length tables.old.items }
     requires home { IsHome (standing_of (table_at tables.old.items table) (kind_number kind)) }
     ensures kind { IfOk result (λ column. column.kind ≡ kind_number kind) }
-    ensures cells { IfOk result (λ column. map (λ cell. Some cell) column.cells ≡ cells_at tables.old.items table (kind_number kind)) }
+    ensures cells { IfOk result (λ column. map (λ cell. Some cell) column.cells
+        ≡ cells_at tables.old.items table (kind_number kind)) }
     ensures apart { AreApart (map (λ row. row.entity) (table_at tables.old.items table).rows) }
-    ensures away { OnOk result (tables.new.items ≡ slice_set tables.old.items table (lent (table_at tables.old.items table) (kind_number kind))) }
+    ensures away { OnOk result (tables.new.items
+        ≡ slice_set tables.old.items table (lent (table_at tables.old.items table) (kind_number
+        kind))) }
     ensures err { OnErr result (tables.new.items ≡ tables.old.items) }
 {
     let there = &mut tables[table];
@@ -58,7 +62,8 @@ pub(crate) fn share_at(
     requires within { table < length tables.old.items }
     requires home { IsHome (standing_of (table_at tables.old.items table) (kind_number kind)) }
     ensures kind { IfOk result (λ column. (arc_value column).kind ≡ kind_number kind) }
-    ensures cells { IfOk result (λ column. map (λ cell. Some cell) (arc_value column).cells ≡ cells_at tables.old.items table (kind_number kind)) }
+    ensures cells { IfOk result (λ column. map (λ cell. Some cell) (arc_value column).cells
+        ≡ cells_at tables.old.items table (kind_number kind)) }
     ensures apart { AreApart (map (λ row. row.entity) (table_at tables.old.items table).rows) }
     ensures alike { AreAllAlike tables.old.items tables.new.items }
 {
@@ -75,7 +80,8 @@ pub(crate) fn share_entities_at(
     alloc: Global,
 ) -> Result<Arc<Vec<Entity>, Global>, AllocError>
     requires { table < length tables.old.items }
-    ensures entities { IfOk result (λ list. (arc_value list).items ≡ map (λ row. row.entity) (table_at tables.old.items table).rows) }
+    ensures entities { IfOk result (λ list. (arc_value list).items
+        ≡ map (λ row. row.entity) (table_at tables.old.items table).rows) }
     ensures same { tables.new.items ≡ tables.old.items }
 {
     let there = &mut tables[table];
@@ -87,7 +93,8 @@ pub(crate) fn home_at(tables: &mut Vec<Table>, table: usize, column: StampedColu
     requires within { table < length tables.old.items }
     requires away { standing_of (table_at tables.old.items table) column.kind ≡ Some Away }
     requires same_length { length column.cells ≡ length (table_at tables.old.items table).rows }
-    ensures { tables.new.items ≡ slice_set tables.old.items table (homed (table_at tables.old.items table) column) }
+    ensures { tables.new.items
+        ≡ slice_set tables.old.items table (homed (table_at tables.old.items table) column) }
 {
     let there = &mut tables[table];
     there.home(column);

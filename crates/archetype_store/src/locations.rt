@@ -45,7 +45,8 @@ pub(crate) fn reach(
 ) -> Result<(), AllocError>
     requires { length places.old.items ≤ length numbers.old.items }
     ensures same { (k : ℕ) → place_of places.new.items k ≡ place_of places.old.items k }
-    ensures numbers { (k : ℕ) → number_of_row numbers.new.items k ≡ number_of_row numbers.old.items k }
+    ensures numbers { (k : ℕ)
+        → number_of_row numbers.new.items k ≡ number_of_row numbers.old.items k }
     ensures ok { OnOk result (index < length places.new.items) }
     ensures longer { length places.old.items ≤ length places.new.items }
     ensures as_many { length places.new.items ≤ length numbers.new.items }

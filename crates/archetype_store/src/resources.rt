@@ -74,7 +74,8 @@ impl Resources {
 
     /// Writes a resource at a tick.
     pub fn set(&mut self, res: Res, value: i64, tick: Tick)
-        ensures { self.new ≡ update_at (res_number res) (resource_after tick (Some value)) self.old }
+        ensures { self.new
+            ≡ update_at (res_number res) (resource_after tick (Some value)) self.old }
     {
         self.by_number[res.number() as usize] = Resource {
             value,

@@ -54,7 +54,8 @@ fn table_left(
     requires below { AreBelow (map stamped_number (row_left change.now.fate)) }
     ensures found { IsFound tables.new.items index.new }
     ensures grown { IsGrown tables.old.items tables.new.items }
-    ensures to { IfOk result (λ to. (t : ℕ) → to ≡ Some t → IsTarget tables.new.items (row_left change.now.fate) t) }
+    ensures to { IfOk result (λ to. (t : ℕ) → to ≡ Some t
+        → IsTarget tables.new.items (row_left change.now.fate) t) }
     ensures none { IfOk result (λ to. to ≡ None → row_left change.now.fate ≡ []) }
 {
     let components = change.components();
@@ -78,7 +79,8 @@ fn planned<'a>(
     requires unlike { AreUnlike tables.old.items }
     requires known { AreRowsKnown tables.old.items places.old.items numbers.old.items }
     requires below { AreBelow (map stamped_number (row_left change.now.fate)) }
-    requires holder { IsHolder change.now.entity.generation (holder_in (place_of places.old.items change.now.entity.index)) }
+    requires holder { IsHolder change.now.entity.generation (holder_in (place_of places.old.items
+        change.now.entity.index)) }
     ensures found { IsFound tables.new.items index.new }
     ensures grown { IsGrown tables.old.items tables.new.items }
     ensures known { AreRowsKnown tables.new.items places.new.items numbers.new.items }
@@ -105,14 +107,18 @@ fn planned_all<'a>(
     requires shaped { AreShaped tables.old.items }
     requires unlike { AreUnlike tables.old.items }
     requires known { AreRowsKnown tables.old.items places.old.items numbers.old.items }
-    requires below { AllByRecursion (λ c. AreBelow (map stamped_number (row_left c.fate))) changes.now }
-    requires holders { AllByRecursion (λ c. IsHolder c.entity.generation (holder_in (place_of places.old.items c.entity.index))) changes.now }
+    requires below { AllByRecursion (λ c. AreBelow (map stamped_number (row_left c.fate)))
+        changes.now }
+    requires holders { AllByRecursion
+        (λ c. IsHolder c.entity.generation (holder_in (place_of places.old.items c.entity.index)))
+        changes.now }
     ensures found { IsFound tables.new.items index.new }
     ensures grown { IsGrown tables.old.items tables.new.items }
     ensures known { AreRowsKnown tables.new.items places.new.items numbers.new.items }
     ensures same { (i : ℕ) → place_of places.new.items i ≡ place_of places.old.items i }
     ensures changes { IfOk result (λ rows. map change_of rows.items ≡ changes.now) }
-    ensures planned { IfOk result (λ rows. AllByRecursion (IsPlanned tables.new.items places.new.items) rows.items) }
+    ensures planned { IfOk result (λ rows. AllByRecursion
+        (IsPlanned tables.new.items places.new.items) rows.items) }
 {
     let mut rows = Vec::with_capacity(alloc, changes.len())?;
     for change in changes {
@@ -169,8 +175,10 @@ fn clear_in(
     ensures known { AreRowsKnown tables.new.items places.new.items numbers.new.items }
     ensures owned { AreOwned tables.new.items }
     ensures shapes { map shape_of tables.new.items ≡ map shape_of tables.old.items }
-    ensures cleared { HasRow (archetypes_of tables.old.items places.old.items) e [] (archetypes_of tables.new.items places.new.items) }
-    ensures places { (i : ℕ) → place_of places.new.items i ≡ with_at e.index None (place_of places.old.items) i }
+    ensures cleared { HasRow (archetypes_of tables.old.items places.old.items) e [] (archetypes_of
+        tables.new.items places.new.items) }
+    ensures places { (i : ℕ)
+        → place_of places.new.items i ≡ with_at e.index None (place_of places.old.items) i }
     ensures as_many { length places.new.items ≡ length places.old.items }
     ensures rooms { (t : ℕ) → room_at tables.new.items t ≡ room_at tables.old.items t }
 {
@@ -204,10 +212,15 @@ fn join_in(
     ensures known { AreRowsKnown tables.new.items places.new.items numbers.new.items }
     ensures owned { AreOwned tables.new.items }
     ensures shapes { map shape_of tables.new.items ≡ map shape_of tables.old.items }
-    ensures joined { HasRow (archetypes_of tables.old.items places.old.items) e (map component_of components.now) (archetypes_of tables.new.items places.new.items) }
-    ensures places { (i : ℕ) → place_of places.new.items i ≡ with_at e.index (Some (record { generation = e.generation; table = table })) (place_of places.old.items) i }
+    ensures joined { HasRow (archetypes_of tables.old.items places.old.items) e
+        (map component_of components.now) (archetypes_of tables.new.items places.new.items) }
+    ensures places { (i : ℕ)
+        → place_of places.new.items i
+        ≡ with_at e.index (Some (record { generation = e.generation; table = table }))
+        (place_of places.old.items) i }
     ensures as_many { length places.new.items ≡ length places.old.items }
-    ensures rooms { (t : ℕ) → room_at tables.old.items t ≤ one_if (t == table) + room_at tables.new.items t }
+    ensures rooms { (t : ℕ)
+        → room_at tables.old.items t ≤ one_if (t == table) + room_at tables.new.items t }
 {
     let row = push_at(tables, table, e, components);
     numbers[e.index as usize] = row;
@@ -245,8 +258,10 @@ fn leave_row(
     ensures known { AreRowsKnown tables.new.items places.new.items numbers.new.items }
     ensures owned { AreOwned tables.new.items }
     ensures shapes { map shape_of tables.new.items ≡ map shape_of tables.old.items }
-    ensures alike { AreAlikeBut (archetypes_of tables.old.items places.old.items) row.now.change.now.entity.index (archetypes_of tables.new.items places.new.items) }
-    ensures others { (i : ℕ) → (i ≡ row.now.change.now.entity.index → ⊥) → place_of places.new.items i ≡ place_of places.old.items i }
+    ensures alike { AreAlikeBut (archetypes_of tables.old.items places.old.items)
+        row.now.change.now.entity.index (archetypes_of tables.new.items places.new.items) }
+    ensures others { (i : ℕ) → (i ≡ row.now.change.now.entity.index → ⊥)
+        → place_of places.new.items i ≡ place_of places.old.items i }
     ensures planned { IsPlanned tables.new.items places.new.items row.now }
     ensures gone { HasLeft places.new.items row.now }
     ensures arrives { arrives_in places.new.items row.now ≡ arrives_in places.old.items row.now }
@@ -280,7 +295,8 @@ fn leave_all(
     ensures planned { AllByRecursion (IsPlanned tables.new.items places.new.items) rows.now }
     ensures gone { AllByRecursion (HasLeft places.new.items) rows.now }
     ensures room { HaveRoom tables.new.items places.new.items rows.now }
-    ensures alike { AreAlikeBefore (archetypes_of tables.old.items places.old.items) (map change_of rows.now) (archetypes_of tables.new.items places.new.items) }
+    ensures alike { AreAlikeBefore (archetypes_of tables.old.items places.old.items)
+        (map change_of rows.now) (archetypes_of tables.new.items places.new.items) }
 {
     let mut left = rows.len();
     while left > 0 {
@@ -301,15 +317,22 @@ fn move_row(
     requires owned { AreOwned tables.old.items }
     requires planned { IsPlanned tables.old.items places.old.items row.now }
     requires gone { HasLeft places.old.items row.now }
-    requires room { (t : ℕ) → arrives_in places.old.items row.now ≡ Some t → 0 < room_at tables.old.items t }
+    requires room { (t : ℕ) → arrives_in places.old.items row.now ≡ Some t
+        → 0 < room_at tables.old.items t }
     ensures whole { AreArchetypes tables.new.items places.new.items }
     ensures known { AreRowsKnown tables.new.items places.new.items numbers.new.items }
     ensures owned { AreOwned tables.new.items }
     ensures shapes { map shape_of tables.new.items ≡ map shape_of tables.old.items }
-    ensures left { HasRow (archetypes_of tables.old.items places.old.items) row.now.change.now.entity (components_left row.now.change.now.fate) (archetypes_of tables.new.items places.new.items) }
-    ensures others { (i : ℕ) → (i ≡ row.now.change.now.entity.index → ⊥) → place_of places.new.items i ≡ place_of places.old.items i }
+    ensures left { HasRow (archetypes_of tables.old.items places.old.items)
+        row.now.change.now.entity (components_left row.now.change.now.fate) (archetypes_of
+        tables.new.items places.new.items) }
+    ensures others { (i : ℕ) → (i ≡ row.now.change.now.entity.index → ⊥)
+        → place_of places.new.items i ≡ place_of places.old.items i }
     ensures as_many { length places.new.items ≡ length places.old.items }
-    ensures rooms { (t : ℕ) → room_at tables.old.items t ≤ one_if (is_table (arrives_in places.old.items row.now) t) + room_at tables.new.items t }
+    ensures rooms { (t : ℕ)
+        → room_at tables.old.items t
+        ≤ one_if (is_table (arrives_in places.old.items row.now) t) + room_at tables.new.items
+        t }
 {
     let e = row.change.entity;
     let Some(to) = row.to else {
@@ -345,7 +368,8 @@ fn move_all(
     ensures known { AreRowsKnown tables.new.items places.new.items numbers.new.items }
     ensures owned { AreOwned tables.new.items }
     ensures shapes { map shape_of tables.new.items ≡ map shape_of tables.old.items }
-    ensures left { HaveRows (archetypes_of tables.old.items places.old.items) (map change_of rows.now) (archetypes_of tables.new.items places.new.items) }
+    ensures left { HaveRows (archetypes_of tables.old.items places.old.items)
+        (map change_of rows.now) (archetypes_of tables.new.items places.new.items) }
 {
     for row in rows {
         move_row(tables, places, numbers, row);
@@ -365,14 +389,19 @@ pub(crate) fn change_in(
     requires known { AreRowsKnown tables.old.items places.old.items numbers.old.items }
     requires owned { AreOwned tables.old.items }
     requires apart { AreOfOtherIndices changes.now }
-    requires below { AllByRecursion (λ c. AreBelow (map stamped_number (row_left c.fate))) changes.now }
-    requires holders { AllByRecursion (λ c. IsHolder c.entity.generation (holder_in (place_of places.old.items c.entity.index))) changes.now }
+    requires below { AllByRecursion (λ c. AreBelow (map stamped_number (row_left c.fate)))
+        changes.now }
+    requires holders { AllByRecursion
+        (λ c. IsHolder c.entity.generation (holder_in (place_of places.old.items c.entity.index)))
+        changes.now }
     ensures found { IsFound tables.new.items index.new }
     ensures whole { AreArchetypes tables.new.items places.new.items }
     ensures known { AreRowsKnown tables.new.items places.new.items numbers.new.items }
     ensures owned { AreOwned tables.new.items }
-    ensures ok { OnOk result (HaveRows (archetypes_of tables.old.items places.old.items) changes.now (archetypes_of tables.new.items places.new.items)) }
-    ensures err { OnErr result (AreAlike (archetypes_of tables.old.items places.old.items) (archetypes_of tables.new.items places.new.items)) }
+    ensures ok { OnOk result (HaveRows (archetypes_of tables.old.items places.old.items) changes.now
+        (archetypes_of tables.new.items places.new.items)) }
+    ensures err { OnErr result (AreAlike (archetypes_of tables.old.items places.old.items)
+        (archetypes_of tables.new.items places.new.items)) }
 {
     let alloc = *tables.allocator();
     let rows = planned_all(alloc, tables, index, places, numbers, changes)?;

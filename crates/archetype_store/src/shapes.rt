@@ -130,7 +130,8 @@ fn note_each(shapes: &mut [KeptShape], word: u32, table: usize)
 // The same in a vector of shapes.
 pub(crate) fn note_all(shapes: &mut Vec<KeptShape>, word: u32, table: usize)
     requires { AllByRecursion HasRoom shapes.old.items }
-    ensures { map kept_seen shapes.new.items ≡ map (noted word table) (map kept_seen shapes.old.items) }
+    ensures { map kept_seen shapes.new.items
+        ≡ map (noted word table) (map kept_seen shapes.old.items) }
 {
     note_each(shapes, word, table);
 }

@@ -55,7 +55,8 @@ impl Model for Storage {
 
     ghost view = { λ a. archetypes_of a.tables.items a.places.items };
 
-    ghost invariant = { λ a. IsWhole a.tables.items a.index a.places.items a.row_numbers.items a.shared };
+    ghost invariant = { λ a. IsWhole a.tables.items a.index a.places.items a.row_numbers.items
+        a.shared };
 }
 
 impl Storage {
@@ -94,7 +95,8 @@ impl Storage {
     /// The component of the kind with this number of the entity of an index.
     pub fn find(&self, index: u32, number: u32) -> Option<StampedValue>
         requires { AreAllHome self.now.layout }
-        ensures cell { option_map (λ s. (component_of s).cell) result ≡ cell_at (row_of self.now.rows index) number }
+        ensures cell { option_map (λ s. (component_of s).cell) result
+            ≡ cell_at (row_of self.now.rows index) number }
         ensures number { IfSome result (λ s. stamped_number s ≡ number) }
     {
         match place_at(&self.places, index) {
@@ -168,10 +170,14 @@ impl Storage {
 
     /// The archetypes that have entities.
     pub fn archetypes(&self, alloc: Global) -> Result<Vec<ArchetypeView<'_>>, AllocError>
-        ensures kinds { IfOk result (λ views. map kinds_seen views.items ≡ map (λ a. a.kinds) self.now.layout) }
-        ensures entities { IfOk result (λ views. map entities_seen views.items ≡ map (λ a. a.entities) self.now.layout) }
-        ensures apart { IfOk result (λ views. AllByRecursion (λ view. AreApart (entities_seen view)) views.items) }
-        ensures order { IfOk result (λ views. AllByRecursion (λ view. OrdersRows (entities_seen view) view.order) views.items) }
+        ensures kinds { IfOk result (λ views. map kinds_seen views.items
+            ≡ map (λ a. a.kinds) self.now.layout) }
+        ensures entities { IfOk result (λ views. map entities_seen views.items
+            ≡ map (λ a. a.entities) self.now.layout) }
+        ensures apart { IfOk result (λ views. AllByRecursion (λ view. AreApart (entities_seen view))
+            views.items) }
+        ensures order { IfOk result (λ views. AllByRecursion
+            (λ view. OrdersRows (entities_seen view) view.order) views.items) }
     {
         views_of(alloc, &self.tables)
     }
@@ -180,7 +186,8 @@ impl Storage {
     pub fn archetype(&self, archetype: usize) -> ArchetypeView<'_>
         requires { archetype < length self.now.layout }
         ensures kinds { kinds_seen result ≡ (archetype_at self.now.layout archetype).kinds }
-        ensures entities { entities_seen result ≡ (archetype_at self.now.layout archetype).entities }
+        ensures entities { entities_seen result
+            ≡ (archetype_at self.now.layout archetype).entities }
         ensures apart { AreApart (entities_seen result) }
         ensures order { OrdersRows (entities_seen result) result.order }
     {
@@ -210,7 +217,8 @@ impl Storage {
     /// Lists the archetypes that fit the shape of a number, by their numbers in rising order, in the room of a list. Whether a shape of this
     /// number is kept: where none is the list means nothing.
     pub fn fitting(&self, shape: usize, found: &mut Vec<usize>) -> Result<bool, AllocError>
-        ensures { IfOk result (λ kept. IsTrue kept → found.new.items ≡ fitting_from shape 0 self.now.layout) }
+        ensures { IfOk result (λ kept. IsTrue kept
+            → found.new.items ≡ fitting_from shape 0 self.now.layout) }
     {
         self.index.find_fitting(shape, found)
     }
@@ -233,9 +241,12 @@ impl Storage {
 
     /// The column of a kind of an archetype, which is at home.
     pub fn column(&self, archetype: usize, kind: Kind) -> &StampedColumn
-        requires { column_home (archetype_at self.now.layout archetype) (kind_number kind) ≡ Some true }
+        requires { column_home (archetype_at self.now.layout archetype) (kind_number kind)
+            ≡ Some true }
         ensures kind { result.now.kind ≡ kind_number kind }
-        ensures cells { map (λ cell. Some cell) result.now.cells ≡ row_cells self.now.rows (archetype_at self.now.layout archetype).entities (kind_number kind) }
+        ensures cells { map (λ cell. Some cell) result.now.cells
+            ≡ row_cells self.now.rows (archetype_at self.now.layout archetype).entities (kind_number
+            kind) }
     {
         let Some(table) = self.index.table_of(archetype) else {
             unreachable!();
@@ -250,10 +261,17 @@ impl Storage {
         archetype: usize,
         kind: Kind,
     ) -> Result<StampedColumn, AllocError>
-        requires { column_home (archetype_at self.old.layout archetype) (kind_number kind) ≡ Some true }
+        requires { column_home (archetype_at self.old.layout archetype) (kind_number kind)
+            ≡ Some true }
         ensures kind { IfOk result (λ column. column.kind ≡ kind_number kind) }
-        ensures cells { IfOk result (λ column. map (λ cell. Some cell) column.cells ≡ row_cells self.old.rows (archetype_at self.old.layout archetype).entities (kind_number kind)) }
-        ensures away { OnOk result (self.new ≡ record self.old { layout = with_home false archetype (kind_number kind) self.old.layout }) }
+        ensures cells { IfOk result (λ column. map (λ cell. Some cell) column.cells
+            ≡ row_cells self.old.rows (archetype_at self.old.layout archetype).entities
+            (kind_number kind)) }
+        ensures away { OnOk result (self.new
+            ≡ record self.old {
+              layout = with_home false archetype (kind_number kind)
+                  self.old.layout;
+            }) }
         ensures err { OnErr result (self.new ≡ self.old) }
     {
         let Some(table) = self.index.table_of(archetype) else {
@@ -269,9 +287,12 @@ impl Storage {
         archetype: usize,
         kind: Kind,
     ) -> Result<Arc<StampedColumn, Global>, AllocError>
-        requires { column_home (archetype_at self.old.layout archetype) (kind_number kind) ≡ Some true }
+        requires { column_home (archetype_at self.old.layout archetype) (kind_number kind)
+            ≡ Some true }
         ensures kind { IfOk result (λ column. (arc_value column).kind ≡ kind_number kind) }
-        ensures cells { IfOk result (λ column. map (λ cell. Some cell) (arc_value column).cells ≡ row_cells self.old.rows (archetype_at self.old.layout archetype).entities (kind_number kind)) }
+        ensures cells { IfOk result (λ column. map (λ cell. Some cell) (arc_value column).cells
+            ≡ row_cells self.old.rows (archetype_at self.old.layout archetype).entities
+            (kind_number kind)) }
         ensures same { self.new ≡ self.old }
     {
         let Some(table) = self.index.table_of(archetype) else {
@@ -288,7 +309,8 @@ impl Storage {
         archetype: usize,
     ) -> Result<Arc<Vec<Entity>, Global>, AllocError>
         requires { archetype < length self.old.layout }
-        ensures entities { IfOk result (λ list. (arc_value list).items ≡ (archetype_at self.old.layout archetype).entities) }
+        ensures entities { IfOk result (λ list. (arc_value list).items
+            ≡ (archetype_at self.old.layout archetype).entities) }
         ensures same { self.new ≡ self.old }
     {
         let Some(table) = self.index.table_of(archetype) else {
@@ -299,8 +321,10 @@ impl Storage {
 
     /// Puts a column that was taken back, with as many cells as the archetype has entities. It allocates nothing.
     pub fn put_column(&mut self, archetype: usize, column: StampedColumn)
-        requires away { column_home (archetype_at self.old.layout archetype) column.kind ≡ Some false }
-        requires same_length { length column.cells ≡ length (archetype_at self.old.layout archetype).entities }
+        requires away { column_home (archetype_at self.old.layout archetype) column.kind
+            ≡ Some false }
+        requires same_length { length column.cells
+            ≡ length (archetype_at self.old.layout archetype).entities }
         ensures { IsFilled self.old archetype column.kind column.cells self.new }
     {
         let Some(table) = self.index.table_of(archetype) else {
@@ -313,8 +337,11 @@ impl Storage {
     /// as they were.
     pub fn change(&mut self, changes: &[EntityChange]) -> Result<(), AllocError>
         requires apart { AreOfOtherIndices changes.now }
-        requires below { AllByRecursion (λ c. AreBelow (map stamped_number (row_left c.fate))) changes.now }
-        requires holders { AllByRecursion (λ c. IsHolder c.entity.generation (holder_of self.old.holders c.entity.index)) changes.now }
+        requires below { AllByRecursion (λ c. AreBelow (map stamped_number (row_left c.fate)))
+            changes.now }
+        requires holders { AllByRecursion
+            (λ c. IsHolder c.entity.generation (holder_of self.old.holders c.entity.index))
+            changes.now }
         requires home { AreAllHome self.old.layout }
         ensures ok { OnOk result (HaveRows self.old changes.now self.new) }
         ensures err { OnErr result (AreAlike self.old self.new) }

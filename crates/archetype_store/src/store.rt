@@ -84,9 +84,14 @@ impl Model for World {
 
     ghost Value = { StoreValue };
 
-    ghost view = { λ w. record { state = record { slots = w.slots.slots; resources = w.resources; clock = w.clock }; layout = w.slots.layout } };
+    ghost view = { λ w. record {
+      state = record
+          { slots = w.slots.slots; resources = w.resources; clock = w.clock };
+      layout = w.slots.layout;
+    } };
 
-    ghost invariant = { λ w. IsWorld widths (record { slots = w.slots.slots; resources = w.resources; clock = w.clock }) };
+    ghost invariant = { λ w. IsWorld widths (record
+        { slots = w.slots.slots; resources = w.resources; clock = w.clock }) };
 }
 
 impl World {
@@ -137,7 +142,8 @@ impl World {
     /// Moves the clock to the next tick, and gives that tick. At the last tick the clock is spent and nothing changes.
     pub fn next(&mut self) -> Result<Tick, ClockSpent>
         ensures ok { IfOk result (λ tick. tick ≡ self.old.state.clock + 1) }
-        ensures moved { OnOk result (self.new.state ≡ at_clock (self.old.state.clock + 1) self.old.state) }
+        ensures moved { OnOk result (self.new.state
+            ≡ at_clock (self.old.state.clock + 1) self.old.state) }
         ensures layout { self.new.layout ≡ self.old.layout }
         ensures spent { IsErr result ↔ (self.old.state.clock ≡ last_tick) }
         ensures err { OnErr result (self.new ≡ self.old) }
@@ -147,10 +153,14 @@ impl World {
 
     /// The archetypes that have entities: the kinds of each, and its entities in the order of their rows.
     pub fn archetypes(&self, alloc: Global) -> Result<Vec<ArchetypeView<'_>>, AllocError>
-        ensures kinds { IfOk result (λ views. map kinds_seen views.items ≡ map (λ a. a.kinds) self.now.layout) }
-        ensures entities { IfOk result (λ views. map entities_seen views.items ≡ map (λ a. a.entities) self.now.layout) }
-        ensures apart { IfOk result (λ views. AllByRecursion (λ view. AreRowsApart (entities_seen view)) views.items) }
-        ensures order { IfOk result (λ views. AllByRecursion (λ view. OrdersRows (entities_seen view) view.order) views.items) }
+        ensures kinds { IfOk result (λ views. map kinds_seen views.items
+            ≡ map (λ a. a.kinds) self.now.layout) }
+        ensures entities { IfOk result (λ views. map entities_seen views.items
+            ≡ map (λ a. a.entities) self.now.layout) }
+        ensures apart { IfOk result (λ views. AllByRecursion
+            (λ view. AreRowsApart (entities_seen view)) views.items) }
+        ensures order { IfOk result (λ views. AllByRecursion
+            (λ view. OrdersRows (entities_seen view) view.order) views.items) }
     {
         self.slots.archetypes(alloc)
     }
@@ -159,7 +169,8 @@ impl World {
     pub fn archetype(&self, archetype: usize) -> ArchetypeView<'_>
         requires { archetype < length self.now.layout }
         ensures kinds { kinds_seen result ≡ (archetype_at self.now.layout archetype).kinds }
-        ensures entities { entities_seen result ≡ (archetype_at self.now.layout archetype).entities }
+        ensures entities { entities_seen result
+            ≡ (archetype_at self.now.layout archetype).entities }
         ensures apart { AreRowsApart (entities_seen result) }
         ensures order { OrdersRows (entities_seen result) result.order }
     {
@@ -185,7 +196,8 @@ impl World {
     /// Lists the archetypes that fit the shape of a number, by their numbers in rising order, in the room of a list. Whether a shape of this
     /// number is kept: where none is the list means nothing.
     pub fn fitting(&self, shape: usize, found: &mut Vec<usize>) -> Result<bool, AllocError>
-        ensures { IfOk result (λ kept. IsTrue kept → found.new.items ≡ fitting_from shape 0 self.now.layout) }
+        ensures { IfOk result (λ kept. IsTrue kept
+            → found.new.items ≡ fitting_from shape 0 self.now.layout) }
     {
         self.slots.fitting(shape, found)
     }
@@ -206,9 +218,12 @@ impl World {
 
     /// The column of a kind of the archetype of a number, which is at home. Its components are those of the archetype's entities, in order.
     pub fn column(&self, archetype: usize, kind: Kind) -> &StampedColumn
-        requires { column_home (archetype_at self.now.layout archetype) (kind_number kind) ≡ Some true }
+        requires { column_home (archetype_at self.now.layout archetype) (kind_number kind)
+            ≡ Some true }
         ensures kind { result.now.kind ≡ kind_number kind }
-        ensures cells { map (λ cell. Some cell) result.now.cells ≡ column_cells self.now.state.slots (archetype_at self.now.layout archetype).entities (kind_number kind) }
+        ensures cells { map (λ cell. Some cell) result.now.cells
+            ≡ column_cells self.now.state.slots (archetype_at self.now.layout archetype).entities
+            (kind_number kind) }
     {
         self.slots.column(archetype, kind)
     }
@@ -221,10 +236,17 @@ impl World {
         archetype: usize,
         kind: Kind,
     ) -> Result<StampedColumn, AllocError>
-        requires { column_home (archetype_at self.old.layout archetype) (kind_number kind) ≡ Some true }
+        requires { column_home (archetype_at self.old.layout archetype) (kind_number kind)
+            ≡ Some true }
         ensures kind { IfOk result (λ column. column.kind ≡ kind_number kind) }
-        ensures cells { IfOk result (λ column. map (λ cell. Some cell) column.cells ≡ column_cells self.old.state.slots (archetype_at self.old.layout archetype).entities (kind_number kind)) }
-        ensures away { OnOk result (self.new ≡ record { state = self.old.state; layout = with_home false archetype (kind_number kind) self.old.layout }) }
+        ensures cells { IfOk result (λ column. map (λ cell. Some cell) column.cells
+            ≡ column_cells self.old.state.slots
+            (archetype_at self.old.layout archetype).entities (kind_number kind)) }
+        ensures away { OnOk result (self.new
+            ≡ record {
+              state = self.old.state;
+              layout = with_home false archetype (kind_number kind) self.old.layout;
+            }) }
         ensures err { OnErr result (self.new ≡ self.old) }
     {
         self.slots.take_column(alloc, archetype, kind)
@@ -237,9 +259,12 @@ impl World {
         archetype: usize,
         kind: Kind,
     ) -> Result<Arc<StampedColumn, Global>, AllocError>
-        requires { column_home (archetype_at self.old.layout archetype) (kind_number kind) ≡ Some true }
+        requires { column_home (archetype_at self.old.layout archetype) (kind_number kind)
+            ≡ Some true }
         ensures kind { IfOk result (λ column. (arc_value column).kind ≡ kind_number kind) }
-        ensures cells { IfOk result (λ column. map (λ cell. Some cell) (arc_value column).cells ≡ column_cells self.old.state.slots (archetype_at self.old.layout archetype).entities (kind_number kind)) }
+        ensures cells { IfOk result (λ column. map (λ cell. Some cell) (arc_value column).cells
+            ≡ column_cells self.old.state.slots
+            (archetype_at self.old.layout archetype).entities (kind_number kind)) }
         ensures same { self.new ≡ self.old }
     {
         self.slots.share_column(alloc, archetype, kind)
@@ -253,7 +278,8 @@ impl World {
         archetype: usize,
     ) -> Result<Arc<Vec<Entity>, Global>, AllocError>
         requires { archetype < length self.old.layout }
-        ensures entities { IfOk result (λ list. (arc_value list).items ≡ (archetype_at self.old.layout archetype).entities) }
+        ensures entities { IfOk result (λ list. (arc_value list).items
+            ≡ (archetype_at self.old.layout archetype).entities) }
         ensures same { self.new ≡ self.old }
     {
         self.slots.share_entities(alloc, archetype)
@@ -261,8 +287,10 @@ impl World {
 
     /// Puts a column that was taken back: each entity of its archetype has the component beside it. It allocates nothing.
     pub fn put_column(&mut self, archetype: usize, column: StampedColumn)
-        requires away { column_home (archetype_at self.old.layout archetype) column.kind ≡ Some false }
-        requires same_length { length column.cells ≡ length (archetype_at self.old.layout archetype).entities }
+        requires away { column_home (archetype_at self.old.layout archetype) column.kind
+            ≡ Some false }
+        requires same_length { length column.cells
+            ≡ length (archetype_at self.old.layout archetype).entities }
         requires past { AllByRecursion (IsPast self.old.state.clock) column.cells }
         ensures { self.new ≡ homed_in self.old archetype column.kind column.cells }
     {
@@ -280,8 +308,10 @@ impl World {
         room: Vec<TakenColumn>,
     ) -> Result<Vec<TakenColumn>, AllocError>
         requires { CanTake self.old.layout columns.now }
-        ensures taken { IfOk result (λ taken. AreTaken self.old.state.slots self.old.layout columns.now taken.items) }
-        ensures away { OnOk result (self.new ≡ record { state = self.old.state; layout = all_away columns.now self.old.layout }) }
+        ensures taken { IfOk result (λ taken. AreTaken self.old.state.slots self.old.layout
+            columns.now taken.items) }
+        ensures away { OnOk result (self.new
+            ≡ record { state = self.old.state; layout = all_away columns.now self.old.layout }) }
         ensures err { OnErr result (self.new ≡ self.old) }
     {
         // Tell how the layout is that of the state, and that no stamp is above the clock.
@@ -313,7 +343,8 @@ impl World {
         room: Vec<SharedColumn>,
     ) -> Result<Vec<SharedColumn>, AllocError>
         requires { CanShare self.old.layout columns.now }
-        ensures shared { IfOk result (λ shared. AreShared self.old.state.slots self.old.layout columns.now shared.items) }
+        ensures shared { IfOk result (λ shared. AreShared self.old.state.slots self.old.layout
+            columns.now shared.items) }
         ensures same { self.new ≡ self.old }
     {
         let mut shared = room;
@@ -355,11 +386,14 @@ impl World {
 
     /// Grants `count` ids: the least vacant indices, at their generations. After an error nothing has changed.
     pub fn grant(&mut self, alloc: Global, count: u32) -> Result<Vec<Entity>, GrantFault>
-        ensures ok { IfOk result (λ granted. granted.items ≡ ids.granted_ids count self.old.state.slots) }
-        ensures granted { OnOk result (self.new.state ≡ with_slots (ids.grant count) self.old.state) }
+        ensures ok { IfOk result (λ granted. granted.items
+            ≡ ids.granted_ids count self.old.state.slots) }
+        ensures granted { OnOk result (self.new.state
+            ≡ with_slots (ids.grant count) self.old.state) }
         ensures each { IfOk result (λ granted. All (IsGranted self.new.state.slots) granted.items) }
         ensures apart { IfOk result (λ granted. AreApart granted.items) }
-        ensures spent { IsErrOf result GrantFault.IdsSpent ↔ (ids.has_ids count self.old.state.slots ≡ false) }
+        ensures spent { IsErrOf result GrantFault.IdsSpent
+            ↔ (ids.has_ids count self.old.state.slots ≡ false) }
         ensures layout { self.new.layout ≡ self.old.layout }
         ensures err { OnErr result (self.new ≡ self.old) }
     {
@@ -376,9 +410,12 @@ impl World {
         counts: &[u32],
         granted: &mut Vec<Vec<Entity>>,
     ) -> Result<(), GrantFault>
-        ensures ok { OnOk result (map (λ list. list.items) granted.new.items ≡ ids.ids_of_each counts.now self.old.state.slots) }
-        ensures granted { OnOk result (self.new.state ≡ with_slots (ids.grant_each counts.now) self.old.state) }
-        ensures spent { IsErrOf result GrantFault.IdsSpent ↔ (ids.has_ids_for_each counts.now self.old.state.slots ≡ false) }
+        ensures ok { OnOk result (map (λ list. list.items) granted.new.items
+            ≡ ids.ids_of_each counts.now self.old.state.slots) }
+        ensures granted { OnOk result (self.new.state
+            ≡ with_slots (ids.grant_each counts.now) self.old.state) }
+        ensures spent { IsErrOf result GrantFault.IdsSpent
+            ↔ (ids.has_ids_for_each counts.now self.old.state.slots ≡ false) }
         ensures layout { self.new.layout ≡ self.old.layout }
         ensures err { OnErr result (self.new ≡ self.old) }
     {
@@ -418,7 +455,8 @@ impl World {
     pub fn despawn(&mut self, e: Entity) -> Result<(), StoreFault>
         requires { AreAllHome self.old.layout }
         ensures ok { OnOk result (self.new.state ≡ with_slot e.index freed self.old.state) }
-        ensures dead { IsErrOf result StoreFault.NotAlive ↔ (is_alive self.old.state.slots e ≡ false) }
+        ensures dead { IsErrOf result StoreFault.NotAlive
+            ↔ (is_alive self.old.state.slots e ≡ false) }
         ensures err { OnErr result (self.new ≡ self.old) }
         ensures home { AreAllHome self.new.layout }
     {
@@ -438,9 +476,12 @@ impl World {
 
     /// The living entity of the least index from this one on.
     pub fn next_living(&self, index: u32) -> Option<Entity>
-        ensures lives { IfSome result (λ e. (index ≤ e.index) × (is_alive self.now.state.slots e ≡ true)) }
-        ensures least { IfSome result (λ e. (k : ℕ) → index ≤ k → k < e.index → lives_at self.now.state.slots k ≡ false) }
-        ensures none { IfNone result ((k : ℕ) → index ≤ k → lives_at self.now.state.slots k ≡ false) }
+        ensures lives { IfSome result (λ e. (index ≤ e.index)
+            × (is_alive self.now.state.slots e ≡ true)) }
+        ensures least { IfSome result (λ e. (k : ℕ) → index ≤ k → k < e.index
+            → lives_at self.now.state.slots k ≡ false) }
+        ensures none { IfNone result ((k : ℕ) → index ≤ k
+            → lives_at self.now.state.slots k ≡ false) }
     {
         self.slots.next_living(index)
     }
@@ -470,8 +511,11 @@ impl World {
     ) -> Result<(), StoreFault>
         requires past { tick ≤ self.old.state.clock }
         requires home { AreAllHome self.old.layout }
-        ensures ok { OnOk result (self.new.state ≡ with_slot e.index (with_row (insert_component tick C.NUMBER (C.words component))) self.old.state) }
-        ensures dead { IsErrOf result StoreFault.NotAlive ↔ (is_alive self.old.state.slots e ≡ false) }
+        ensures ok { OnOk result (self.new.state
+            ≡ with_slot e.index (with_row (insert_component tick C.NUMBER (C.words component)))
+            self.old.state) }
+        ensures dead { IsErrOf result StoreFault.NotAlive
+            ↔ (is_alive self.old.state.slots e ≡ false) }
         ensures err { OnErr result (self.new ≡ self.old) }
         ensures home { AreAllHome self.new.layout }
     {
@@ -490,11 +534,15 @@ impl World {
     /// has changed.
     pub fn remove(&mut self, e: Entity, kind: Kind) -> Result<(), StoreFault>
         requires { AreAllHome self.old.layout }
-        ensures ok { OnOk result (self.new.state ≡ with_slot e.index (with_row (remove_component (kind_number kind))) self.old.state) }
-        ensures dead { IsErrOf result StoreFault.NotAlive ↔ (is_alive self.old.state.slots e ≡ false) }
+        ensures ok { OnOk result (self.new.state
+            ≡ with_slot e.index (with_row (remove_component (kind_number kind)))
+            self.old.state) }
+        ensures dead { IsErrOf result StoreFault.NotAlive
+            ↔ (is_alive self.old.state.slots e ≡ false) }
         ensures err { OnErr result (self.new ≡ self.old) }
         ensures home { AreAllHome self.new.layout }
-        ensures absent { IsErrOf result StoreFault.Memory → is_some (cell_of self.old.state.slots e (kind_number kind)) ≡ true }
+        ensures absent { IsErrOf result StoreFault.Memory
+            → is_some (cell_of self.old.state.slots e (kind_number kind)) ≡ true }
     {
         if !self.lives(e) {
             return Err(StoreFault::NotAlive);
@@ -513,7 +561,8 @@ impl World {
     // The components of an index.
     fn row_of(&self, index: u32) -> Result<Components, AllocError>
         requires { AreAllHome self.now.layout }
-        ensures { IfOk result (λ row. map component_of row.items ≡ row_at self.now.state.slots index) }
+        ensures { IfOk result (λ row. map component_of row.items
+            ≡ row_at self.now.state.slots index) }
     {
         let mut row = Components::new(*self.change_list.allocator());
         self.components(index, &mut row)?;
@@ -524,7 +573,8 @@ impl World {
     fn change_one(&mut self, entity: Entity, fate: Fate) -> Result<(), AllocError>
         requires home { AreAllHome self.old.layout }
         requires can { CanChange self.old.state (record { entity = entity; fate = fate }) }
-        ensures ok { OnOk result (self.new.state ≡ with_slot entity.index (slot_left fate) self.old.state) }
+        ensures ok { OnOk result (self.new.state
+            ≡ with_slot entity.index (slot_left fate) self.old.state) }
         ensures err { OnErr result (self.new ≡ self.old) }
         ensures home { AreAllHome self.new.layout }
     {
@@ -537,7 +587,8 @@ impl World {
         requires home { AreAllHome self.old.layout }
         requires apart { AreOfOtherIndices changes.now }
         requires can { AllByRecursion (CanChange self.old.state) changes.now }
-        ensures ok { OnOk result (self.new.state ≡ with_slots (changed changes.now) self.old.state) }
+        ensures ok { OnOk result (self.new.state
+            ≡ with_slots (changed changes.now) self.old.state) }
         ensures err { OnErr result (self.new ≡ self.old) }
         ensures home { AreAllHome self.new.layout }
     {
@@ -637,7 +688,8 @@ impl World {
     /// Lists the components of an index, in rising kinds, in the room of a list: none unless an entity of it lives.
     pub fn components(&self, index: u32, components: &mut Components) -> Result<(), AllocError>
         requires { AreAllHome self.now.layout }
-        ensures { OnOk result (map component_of components.new.items ≡ row_at self.now.state.slots index) }
+        ensures { OnOk result (map component_of components.new.items
+            ≡ row_at self.now.state.slots index) }
     {
         self.slots.components(index, components)
     }

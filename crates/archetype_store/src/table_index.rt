@@ -68,7 +68,8 @@ impl TableIndex {
 
     /// An index that finds the same tables. Where an allocation fails there is no copy.
     pub(crate) fn copy(&self, alloc: Global) -> Result<Self, AllocError>
-        ensures { IfOk result (λ copy. (tables : List TableValue) → IsIndexed tables self.now → IsIndexed tables copy) }
+        ensures { IfOk result (λ copy. (tables : List TableValue) → IsIndexed tables self.now
+            → IsIndexed tables copy) }
     {
         let by_word = self.by_word.copy()?;
         let mut peopled = Vec::with_capacity(alloc, self.peopled.capacity())?;
@@ -139,7 +140,8 @@ impl TableIndex {
 
     /// How many archetypes there are: tables with rows.
     pub(crate) fn len(&self) -> usize
-        ensures { (tables : List TableValue) → IsIndexed tables self.now → result ≡ length (layout_of tables) }
+        ensures { (tables : List TableValue) → IsIndexed tables self.now
+            → result ≡ length (layout_of tables) }
     {
         self.peopled.len()
     }
@@ -171,7 +173,8 @@ impl TableIndex {
 
     // The tables that fit the shape of a number, where it is kept.
     fn fitting(&self, shape: usize) -> Option<&[usize]>
-        ensures { (tables : List TableValue) → IsIndexed tables self.now → IfSome result (λ fitting. fitting.now ≡ fitting_tables shape 0 tables) }
+        ensures { (tables : List TableValue) → IsIndexed tables self.now
+            → IfSome result (λ fitting. fitting.now ≡ fitting_tables shape 0 tables) }
     {
         let place = *self.by_shape.get(&shape)?;
         let kept = self.shapes.get(place)?;
@@ -189,7 +192,8 @@ impl TableIndex {
         shape: usize,
         found: &mut Vec<usize>,
     ) -> Result<bool, AllocError>
-        ensures { IfOk result (λ kept. (tables : List TableValue) → IsIndexed tables self.now → IsTrue kept → found.new.items ≡ fitting_from shape 0 (layout_of tables)) }
+        ensures { IfOk result (λ kept. (tables : List TableValue) → IsIndexed tables self.now
+            → IsTrue kept → found.new.items ≡ fitting_from shape 0 (layout_of tables)) }
     {
         let Some(tables) = self.fitting(shape) else {
             return Ok(false);
@@ -200,7 +204,9 @@ impl TableIndex {
 
     /// The table of an archetype: only tables with rows are numbered.
     pub(crate) fn table_of(&self, archetype: usize) -> Option<usize>
-        ensures { (tables : List TableValue) → IsIndexed tables self.now → MatchOption result (length (layout_of tables) ≤ archetype) (IsTableOf tables archetype) }
+        ensures { (tables : List TableValue) → IsIndexed tables self.now
+            → MatchOption result (length (layout_of tables) ≤ archetype) (IsTableOf tables
+            archetype) }
     {
         if archetype < self.peopled.len() {
             Some(self.peopled[archetype])
@@ -211,7 +217,8 @@ impl TableIndex {
 
     /// The archetype of a table: one without rows has none.
     pub(crate) fn archetype_of(&self, table: usize) -> Option<usize>
-        ensures { (tables : List TableValue) → IsIndexed tables self.now → result ≡ get_or (numbers_from 0 tables) table None }
+        ensures { (tables : List TableValue) → IsIndexed tables self.now
+            → result ≡ get_or (numbers_from 0 tables) table None }
     {
         number_at(self.numbers.as_slice(), table)
     }

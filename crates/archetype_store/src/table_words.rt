@@ -31,7 +31,8 @@ impl Model for TableWords {
 
     ghost view = { λ t. t.by_word.entries };
 
-    ghost invariant = { λ t. (found : FoundTable) → t.last ≡ Some found → get nat_eq t.by_word found.word ≡ Some found.table };
+    ghost invariant = { λ t. (found : FoundTable) → t.last ≡ Some found
+        → get nat_eq t.by_word found.word ≡ Some found.table };
 }
 
 impl TableWords {
@@ -47,7 +48,8 @@ impl TableWords {
 
     /// The same tables. Where an allocation fails there is no copy.
     pub(crate) fn copy(&self) -> Result<Self, AllocError>
-        ensures { IfOk result (λ copy. (word : ℕ) → told_table copy word ≡ told_table self.now word) }
+        ensures { IfOk result (λ copy. (word : ℕ)
+            → told_table copy word ≡ told_table self.now word) }
     {
         let by_word = self.by_word.clone()?;
         Ok(TableWords {
@@ -73,7 +75,9 @@ impl TableWords {
 
     /// Adds the table of the kinds of a word. Where an allocation fails there is none.
     pub(crate) fn insert(&mut self, word: u32, table: usize) -> Result<(), AllocError>
-        ensures ok { OnOk result ((w : ℕ) → told_table self.new w ≡ cond (nat_eq word w) (Some table) (told_table self.old w)) }
+        ensures ok { OnOk result ((w : ℕ)
+            → told_table self.new w
+            ≡ cond (nat_eq word w) (Some table) (told_table self.old w)) }
         ensures err { OnErr result ((w : ℕ) → told_table self.new w ≡ told_table self.old w) }
     {
         self.last = None;

@@ -41,10 +41,14 @@ pub(crate) fn views_of(
     alloc: Global,
     tables: &[Table],
 ) -> Result<Vec<ArchetypeView<'_>>, AllocError>
-    ensures kinds { IfOk result (λ views. map kinds_seen views.items ≡ map (λ a. a.kinds) (layout_of tables.now)) }
-    ensures entities { IfOk result (λ views. map entities_seen views.items ≡ map (λ a. a.entities) (layout_of tables.now)) }
-    ensures apart { IfOk result (λ views. AllByRecursion (λ view. AreApart (entities_seen view)) views.items) }
-    ensures order { IfOk result (λ views. AllByRecursion (λ view. OrdersRows (entities_seen view) view.order) views.items) }
+    ensures kinds { IfOk result (λ views. map kinds_seen views.items
+        ≡ map (λ a. a.kinds) (layout_of tables.now)) }
+    ensures entities { IfOk result (λ views. map entities_seen views.items
+        ≡ map (λ a. a.entities) (layout_of tables.now)) }
+    ensures apart { IfOk result (λ views. AllByRecursion (λ view. AreApart (entities_seen view))
+        views.items) }
+    ensures order { IfOk result (λ views. AllByRecursion
+        (λ view. OrdersRows (entities_seen view) view.order) views.items) }
 {
     let mut views = Vec::new(alloc);
     for table in tables {
@@ -79,7 +83,8 @@ pub(crate) fn view_at(tables: &[Table], table: usize) -> ArchetypeView<'_>
 
 // The kinds of components.
 fn kinds_of(alloc: Global, components: &[StampedValue]) -> Result<Vec<Kind>, AllocError>
-    ensures { IfOk result (λ kinds. map kind_number kinds.items ≡ map stamped_number components.now) }
+    ensures { IfOk result (λ kinds. map kind_number kinds.items
+        ≡ map stamped_number components.now) }
 {
     let mut kinds = Vec::new(alloc);
     for component in components {
@@ -110,7 +115,8 @@ pub(crate) fn table_for(
     requires below { AreBelow (map stamped_number components.now) }
     requires some { components.now ≢ [] }
     ensures within { IfOk result (λ table. table < length tables.new.items) }
-    ensures kinds { IfOk result (λ table. kinds_at tables.new.items table ≡ map stamped_number components.now) }
+    ensures kinds { IfOk result (λ table. kinds_at tables.new.items table
+        ≡ map stamped_number components.now) }
     ensures grown { IsGrown tables.old.items tables.new.items }
     ensures found { IsFound tables.new.items index.new }
 {
@@ -134,7 +140,9 @@ pub(crate) fn find_at(
     requires there { IsSome (entity_in_row tables.now table row) }
     requires shaped { AreShaped tables.now }
     requires home { AreHome tables.now }
-    ensures cell { (e : Entity) → entity_in_row tables.now table row ≡ Some e → option_map (λ s. (component_of s).cell) result ≡ cell_at (row_or_none (held_at tables.now table e)) number }
+    ensures cell { (e : Entity) → entity_in_row tables.now table row ≡ Some e
+        → option_map (λ s. (component_of s).cell) result
+        ≡ cell_at (row_or_none (held_at tables.now table e)) number }
     ensures number { IfSome result (λ s. stamped_number s ≡ number) }
 {
     let there = &tables[table];
@@ -167,8 +175,10 @@ pub(crate) fn components_at(
 ) -> Result<(), AllocError>
     requires there { IsSome (entity_in_row tables.now table row) }
     requires home { AreHome tables.now }
-    ensures row { OnOk result ((e : Entity) → entity_in_row tables.now table row ≡ Some e → held_at tables.now table e ≡ Some (map component_of components.new.items)) }
-    ensures kinds { OnOk result (map stamped_number components.new.items ≡ kinds_at tables.now table) }
+    ensures row { OnOk result ((e : Entity) → entity_in_row tables.now table row ≡ Some e
+        → held_at tables.now table e ≡ Some (map component_of components.new.items)) }
+    ensures kinds { OnOk result (map stamped_number components.new.items
+        ≡ kinds_at tables.now table) }
 {
     let there = &tables[table];
     // Tells that no entity is there twice.
@@ -180,7 +190,9 @@ pub(crate) fn components_at(
 pub(crate) fn reserve_at(tables: &mut Vec<Table>, table: usize) -> Result<(), AllocError>
     requires within { table < length tables.old.items }
     requires owned { AreOwned tables.old.items }
-    ensures ok { OnOk result (tables.new.items ≡ slice_set tables.old.items table (with_room (room_at tables.old.items table + 1) (table_at tables.old.items table))) }
+    ensures ok { OnOk result (tables.new.items
+        ≡ slice_set tables.old.items table (with_room (room_at tables.old.items table + 1)
+        (table_at tables.old.items table))) }
     ensures err { OnErr result (tables.new.items ≡ tables.old.items) }
 {
     let there = &mut tables[table];
@@ -190,7 +202,8 @@ pub(crate) fn reserve_at(tables: &mut Vec<Table>, table: usize) -> Result<(), Al
 // Counts no row that room was made for in a table any more.
 pub(crate) fn release_at(tables: &mut Vec<Table>, table: usize)
     requires { table < length tables.old.items }
-    ensures { tables.new.items ≡ slice_set tables.old.items table (with_room 0 (table_at tables.old.items table)) }
+    ensures { tables.new.items
+        ≡ slice_set tables.old.items table (with_room 0 (table_at tables.old.items table)) }
 {
     let there = &mut tables[table];
     there.release();
@@ -208,9 +221,12 @@ pub(crate) fn push_at(
     requires kinds { kinds_at tables.old.items table ≡ map stamped_number components.now }
     requires owned { AreOwned tables.old.items }
     requires room { 0 < room_at tables.old.items table }
-    ensures held { IsHeldNow tables.old.items tables.new.items table e (Some (map component_of components.now)) }
+    ensures held { IsHeldNow tables.old.items tables.new.items table e (Some (map component_of
+        components.now)) }
     ensures row { result ≡ length (entities_at tables.old.items table) }
-    ensures entities { IsOneTable tables.old.items tables.new.items table (entities_at tables.old.items table ++ e ∷ []) }
+    ensures entities { IsOneTable tables.old.items tables.new.items table (entities_at
+        tables.old.items table
+        ++ e ∷ []) }
     ensures room { room_at tables.new.items table ≡ room_at tables.old.items table - 1 }
 {
     let there = &mut tables[table];
@@ -229,8 +245,11 @@ pub(crate) fn renew_at(
     requires there { IsSome (entity_in_row tables.old.items table row) }
     requires kinds { kinds_at tables.old.items table ≡ map stamped_number components.now }
     requires owned { AreOwned tables.old.items }
-    ensures held { (e : Entity) → entity_in_row tables.old.items table row ≡ Some e → IsHeldNow tables.old.items tables.new.items table e (Some (map component_of components.now)) }
-    ensures entities { IsOneTable tables.old.items tables.new.items table (entities_at tables.old.items table) }
+    ensures held { (e : Entity) → entity_in_row tables.old.items table row ≡ Some e
+        → IsHeldNow tables.old.items tables.new.items table e (Some (map component_of
+        components.now)) }
+    ensures entities { IsOneTable tables.old.items tables.new.items table (entities_at
+        tables.old.items table) }
     ensures room { room_at tables.new.items table ≡ room_at tables.old.items table }
 {
     let there = &mut tables[table];
@@ -243,9 +262,13 @@ pub(crate) fn renew_at(
 pub(crate) fn remove_at(tables: &mut Vec<Table>, table: usize, row: usize) -> Entity
     requires there { IsSome (entity_in_row tables.old.items table row) }
     requires owned { AreOwned tables.old.items }
-    ensures held { (e : Entity) → entity_in_row tables.old.items table row ≡ Some e → IsHeldNow tables.old.items tables.new.items table e None }
-    ensures moved { entity_in_row tables.old.items table (length (entities_at tables.old.items table) - 1) ≡ Some result }
-    ensures entities { IsOneTable tables.old.items tables.new.items table (swap_removed (entities_at tables.old.items table) row) }
+    ensures held { (e : Entity) → entity_in_row tables.old.items table row ≡ Some e
+        → IsHeldNow tables.old.items tables.new.items table e None }
+    ensures moved { entity_in_row tables.old.items table (length
+        (entities_at tables.old.items table) - 1)
+        ≡ Some result }
+    ensures entities { IsOneTable tables.old.items tables.new.items table (swap_removed
+        (entities_at tables.old.items table) row) }
     ensures room { room_at tables.new.items table ≡ room_at tables.old.items table }
 {
     let there = &mut tables[table];

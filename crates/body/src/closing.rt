@@ -47,7 +47,8 @@ fn put_columns(columns: Vec<ViewColumn>, world: &mut World) -> Vec<ViewColumn>
 pub(crate) fn put_home(queries: &mut Vec<ViewQuery>, world: &mut World, room: &mut QueryRoom)
     requires { CanComeHome (lent_after queries.old.items) world.old }
     ensures home { world.new ≡ all_home (lent_after queries.old.items) world.old }
-    ensures reach { AllByRecursion (λ (s : Sheet). WritesReach (words_of_sheet s) s.taken) queries.old.items }
+    ensures reach { AllByRecursion (λ (s : Sheet). WritesReach (words_of_sheet s) s.taken)
+        queries.old.items }
     ensures none { queries.new.items ≡ [] }
 {
     while let Some(query) = queries.pop() {

@@ -38,8 +38,10 @@ impl ColumnRequests {
 
     // Where these picks are, in the room of those before.
     fn fill(&mut self, picks: &[Pick]) -> Result<(), AllocError>
-        ensures own { OnOk result (map spot_seen self.new.own.items ≡ map spot_of (picked_own (map pick_seen picks.now))) }
-        ensures read { OnOk result (map spot_seen self.new.read.items ≡ map spot_of (picked_read (map pick_seen picks.now))) }
+        ensures own { OnOk result (map spot_seen self.new.own.items
+            ≡ map spot_of (picked_own (map pick_seen picks.now))) }
+        ensures read { OnOk result (map spot_seen self.new.read.items
+            ≡ map spot_of (picked_read (map pick_seen picks.now))) }
     {
         self.own.clear();
         self.read.clear();
@@ -65,7 +67,8 @@ fn hold_own(
     world: &World,
 ) -> Vec<TakenColumn>
     requires { vec_len columns.old + vec_len taken ≤ vec_capacity columns.old }
-    ensures columns { map held_seen columns.new.items ≡ map held_seen columns.old.items ++ map (own_column world.now) taken.items }
+    ensures columns { map held_seen columns.new.items
+        ≡ map held_seen columns.old.items ++ map (own_column world.now) taken.items }
     ensures len { vec_len columns.new ≡ vec_len columns.old + vec_len taken }
     ensures capacity { vec_capacity columns.new ≡ vec_capacity columns.old }
 {
@@ -88,7 +91,8 @@ fn hold_read(
     world: &World,
 ) -> Vec<SharedColumn>
     requires { vec_len columns.old + vec_len shared ≤ vec_capacity columns.old }
-    ensures { map held_seen columns.new.items ≡ map held_seen columns.old.items ++ map (read_column world.now) shared.items }
+    ensures { map held_seen columns.new.items
+        ≡ map held_seen columns.old.items ++ map (read_column world.now) shared.items }
 {
     let mut left = shared;
     left.reverse();
@@ -112,8 +116,14 @@ pub(crate) fn take_picked(
 ) -> Result<Vec<ViewColumn>, AllocError>
     requires home { AreSpotsHome world.old.layout (map pick_seen picks.now) }
     requires others { AreOtherSpots (map pick_seen picks.now) }
-    ensures held { IfOk result (λ columns. AreHeldOf world.old (picked_own (map pick_seen picks.now) ++ picked_read (map pick_seen picks.now)) (map held_seen columns.items)) }
-    ensures away { IfOk result (λ columns. world.new ≡ record { state = world.old.state; layout = with_away (lent_of (map held_seen columns.items)) world.old.layout }) }
+    ensures held { IfOk result (λ columns. AreHeldOf world.old
+        (picked_own (map pick_seen picks.now) ++ picked_read (map pick_seen picks.now))
+        (map held_seen columns.items)) }
+    ensures away { IfOk result (λ columns. world.new
+        ≡ record {
+          state = world.old.state;
+          layout = with_away (lent_of (map held_seen columns.items)) world.old.layout;
+        }) }
     ensures err { OnErr result (world.new ≡ world.old) }
 {
     let mut columns = take_list(&mut room.columns, alloc);

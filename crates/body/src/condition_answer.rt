@@ -42,8 +42,10 @@ pub(crate) fn ask(
     cursors: &[u64],
     room: &mut RowBuffers,
 ) -> Result<bool, AllocError>
-    requires { AllByRecursion (λ query. ArePickedHome query world.now.layout) (queries_of cond.now) }
-    ensures { IfOk result (λ answer. (state : State) → state.world ≡ world.now.state → state.events ≡ events.now → answer ≡ holds cond.now last_run cursors.now state) }
+    requires { AllByRecursion (λ query. ArePickedHome query world.now.layout) (queries_of
+        cond.now) }
+    ensures { IfOk result (λ answer. (state : State) → state.world ≡ world.now.state
+        → state.events ≡ events.now → answer ≡ holds cond.now last_run cursors.now state) }
 {
     let part = evaluate(alloc, cond.tree(), world, events, last_run, cursors, room)?;
     Ok(part.answer)
@@ -59,9 +61,12 @@ fn evaluate<'a>(
     cursors: &'a [u64],
     room: &mut RowBuffers,
 ) -> Result<Evaluated<'a>, AllocError>
-    requires home { AllByRecursion (λ query. ArePickedHome query world.now.layout) (queries_of (condition_of tree.now)) }
-    ensures answer { IfOk result (λ part. IsMeant (condition_of tree.now) world.now.state events.now last_run cursors.now part.answer) }
-    ensures cursors { IfOk result (λ part. part.cursors.now ≡ cursors_after (condition_of tree.now) cursors.now) }
+    requires home { AllByRecursion (λ query. ArePickedHome query world.now.layout) (queries_of
+        (condition_of tree.now)) }
+    ensures answer { IfOk result (λ part. IsMeant (condition_of tree.now) world.now.state events.now
+        last_run cursors.now part.answer) }
+    ensures cursors { IfOk result (λ part. part.cursors.now
+        ≡ cursors_after (condition_of tree.now) cursors.now) }
 {
     match tree {
         Tree::RunOnce => Ok(answered(last_run == 0, cursors)),
@@ -107,7 +112,8 @@ fn has_row(
     room: &mut RowBuffers,
 ) -> Result<bool, AllocError>
     requires { ArePickedHome query.now world.now.layout }
-    ensures { IfOk result (λ answer. answer ≡ is_there (rows_of query.now last_run world.now.state.slots)) }
+    ensures { IfOk result (λ answer. answer
+        ≡ is_there (rows_of query.now last_run world.now.state.slots)) }
 {
     let shape = shape_of(query).number();
     let plan = plan_by(alloc, world, shape, query, last_run, room)?;
@@ -119,7 +125,8 @@ fn has_row(
 
 // Whether an event of the kind is there from the first cursor on, 0 where there is none.
 fn first_read<'a>(events: &Events, event: Event, cursors: &'a [u64]) -> Evaluated<'a>
-    ensures answer { result.answer ≡ is_there (unread (queue_of events.now (event_number event)) (head_or 0 cursors.now)) }
+    ensures answer { result.answer
+        ≡ is_there (unread (queue_of events.now (event_number event)) (head_or 0 cursors.now)) }
     ensures cursors { result.cursors.now ≡ tail_of cursors.now }
 {
     match cursors.split_first() {

@@ -26,7 +26,11 @@ impl Model for Memory {
 
     ghost Value = { ModelMemory };
 
-    ghost view = { λ m. record { last_run = m.last_run; cursors = m.cursors.items; registers = m.registers } };
+    ghost view = { λ m. record {
+      last_run = m.last_run;
+      cursors = m.cursors.items;
+      registers = m.registers;
+    } };
 
     ghost invariant = { λ m. length m.registers ≡ register_count };
 }
@@ -97,7 +101,8 @@ impl Memory {
     /// Remembers a run at a tick, in which the readers, of these event kinds, were shown all that was kept.
     pub fn ran(&mut self, tick: Tick, reads: &[Event], events: &Events)
         requires { length self.old.cursors ≡ length reads.now }
-        ensures { self.new ≡ memory_after_run tick (map event_number reads.now) events.now self.old }
+        ensures { self.new
+            ≡ memory_after_run tick (map event_number reads.now) events.now self.old }
     {
         self.last_run = tick;
         move_to_ends(&mut self.cursors, reads, events);

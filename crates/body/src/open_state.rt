@@ -81,9 +81,14 @@ impl Model for OpenState {
 
     ghost Value = { StateValue };
 
-    ghost view = { λ s. record { state = counted_state s.world.state s.events s.systems.items s.conditions.items s.passed_over; layout = s.world.layout } };
+    ghost view = { λ s. record {
+      state = counted_state s.world.state s.events s.systems.items
+          s.conditions.items s.passed_over;
+      layout = s.world.layout;
+    } };
 
-    ghost invariant = { λ s. ArePartsOf s.world.state.clock s.systems.items s.conditions.items s.passed_over };
+    ghost invariant = { λ s. ArePartsOf s.world.state.clock s.systems.items s.conditions.items
+        s.passed_over };
 }
 
 impl OpenState {
@@ -98,7 +103,12 @@ impl OpenState {
     ) -> Self
         requires in_time { AreInTime world.state.clock systems.items conditions.items }
         requires counted { passed_over ≤ most_passed_over }
-        ensures { result ≡ record { state = counted_state world.state events systems.items conditions.items passed_over; layout = world.layout } }
+        ensures { result
+            ≡ record {
+              state = counted_state world.state events systems.items conditions.items
+                  passed_over;
+              layout = world.layout;
+            } }
     {
         OpenState {
             world,
@@ -139,7 +149,8 @@ impl OpenState {
     pub fn prove_law(&self)
         ensures few { length self.now.state.world.slots ≤ most_indices }
         ensures laid { IsLayoutOf self.now.state.world.slots self.now.layout }
-        ensures memories { AreInTime self.now.state.world.clock self.now.state.systems self.now.state.conditions }
+        ensures memories { AreInTime self.now.state.world.clock self.now.state.systems
+            self.now.state.conditions }
     {
         self.world.prove_laid();
         let _ = self.world.now();
@@ -166,7 +177,8 @@ impl OpenState {
     /// the older. At the last tick the clock is spent and nothing changes.
     #[tactic(auto, using(crate::proofs::Times::all_later))]
     pub fn begin(&mut self) -> Result<(), ClockSpent>
-        ensures ok { OnOk result (self.new ≡ record { state = opening self.old.state; layout = self.old.layout }) }
+        ensures ok { OnOk result (self.new
+            ≡ record { state = opening self.old.state; layout = self.old.layout }) }
         ensures spent { IsErr result ↔ (has_tick self.old.state ≡ false) }
         ensures err { OnErr result (self.new ≡ self.old) }
     {
@@ -193,7 +205,11 @@ impl OpenState {
     #[tactic(auto, using(crate::proofs::Times::all_later))]
     pub fn next(&mut self) -> Result<Tick, ClockSpent>
         ensures ok { IfOk result (λ tick. tick ≡ next_tick self.old.state) }
-        ensures moved { OnOk result (self.new ≡ record { state = at_clock (next_tick self.old.state) self.old.state; layout = self.old.layout }) }
+        ensures moved { OnOk result (self.new
+            ≡ record {
+              state = at_clock (next_tick self.old.state) self.old.state;
+              layout = self.old.layout;
+            }) }
         ensures spent { IsErr result ↔ (has_tick self.old.state ≡ false) }
         ensures err { OnErr result (self.new ≡ self.old) }
     {
@@ -203,9 +219,16 @@ impl OpenState {
 
     /// Grants `count` ids: the least vacant indices, at their generations. After an error nothing has changed.
     pub fn grant(&mut self, alloc: Global, count: u32) -> Result<Vec<Entity>, GrantFault>
-        ensures ok { IfOk result (λ granted. granted.items ≡ ids.granted_ids count self.old.state.world.slots) }
-        ensures granted { OnOk result (self.new ≡ record { state = with_slots_in (ids.grant count self.old.state.world.slots) self.old.state; layout = self.old.layout }) }
-        ensures spent { IsErrOf result GrantFault.IdsSpent ↔ (ids.has_ids count self.old.state.world.slots ≡ false) }
+        ensures ok { IfOk result (λ granted. granted.items
+            ≡ ids.granted_ids count self.old.state.world.slots) }
+        ensures granted { OnOk result (self.new
+            ≡ record {
+              state = with_slots_in (ids.grant count self.old.state.world.slots)
+                  self.old.state;
+              layout = self.old.layout;
+            }) }
+        ensures spent { IsErrOf result GrantFault.IdsSpent
+            ↔ (ids.has_ids count self.old.state.world.slots ≡ false) }
         ensures err { OnErr result (self.new ≡ self.old) }
     {
         self.world.grant(alloc, count)
@@ -220,9 +243,16 @@ impl OpenState {
         counts: &[u32],
         granted: &mut Vec<Vec<Entity>>,
     ) -> Result<(), GrantFault>
-        ensures ok { OnOk result (map (λ list. list.items) granted.new.items ≡ ids.ids_of_each counts.now self.old.state.world.slots) }
-        ensures granted { OnOk result (self.new ≡ record { state = with_slots_in (ids.grant_each counts.now self.old.state.world.slots) self.old.state; layout = self.old.layout }) }
-        ensures spent { IsErrOf result GrantFault.IdsSpent ↔ (ids.has_ids_for_each counts.now self.old.state.world.slots ≡ false) }
+        ensures ok { OnOk result (map (λ list. list.items) granted.new.items
+            ≡ ids.ids_of_each counts.now self.old.state.world.slots) }
+        ensures granted { OnOk result (self.new
+            ≡ record {
+              state = with_slots_in
+                  (ids.grant_each counts.now self.old.state.world.slots) self.old.state;
+              layout = self.old.layout;
+            }) }
+        ensures spent { IsErrOf result GrantFault.IdsSpent
+            ↔ (ids.has_ids_for_each counts.now self.old.state.world.slots ≡ false) }
         ensures err { OnErr result (self.new ≡ self.old) }
     {
         self.world.grant_level(alloc, counts, granted)
@@ -240,9 +270,14 @@ impl OpenState {
         requires past { tick ≤ self.old.state.world.clock }
         requires home { AreAllHome self.old.layout }
         requires known { All (λ n. n < length buffers.now) order.now }
-        requires granted { All (IsGranted self.old.state.world.slots) (spawned_by (commands_of buffers.now order.now)) }
+        requires granted { All (IsGranted self.old.state.world.slots) (spawned_by (commands_of
+            buffers.now order.now)) }
         requires apart { AreApart (spawned_by (commands_of buffers.now order.now)) }
-        ensures applied { OnOk result (self.new.state ≡ with_target (apply_buffer tick (target_in self.old.state) (commands_of buffers.now order.now)) self.old.state) }
+        ensures applied { OnOk result (self.new.state
+            ≡ with_target
+            (apply_buffer tick (target_in self.old.state) (commands_of buffers.now
+            order.now))
+            self.old.state) }
         ensures err { OnErr result (self.new ≡ self.old) }
         ensures home { AreAllHome self.new.layout }
     {
@@ -253,7 +288,12 @@ impl OpenState {
 
     /// Frees each of these ids that is still granted.
     pub fn release(&mut self, granted: &[Entity])
-        ensures { self.new ≡ record { state = with_slots_in (release granted.now self.old.state.world.slots) self.old.state; layout = self.old.layout } }
+        ensures { self.new
+            ≡ record {
+              state = with_slots_in (release granted.now self.old.state.world.slots)
+                  self.old.state;
+              layout = self.old.layout;
+            } }
     {
         self.world.release(granted);
     }
@@ -272,18 +312,32 @@ impl OpenState {
     ) -> Result<Box<View>, AllocError>
         requires empty { commands ≡ [] }
         requires known { system < length self.old.state.systems }
-        requires home { AllByRecursion (λ query. ArePickedHome query self.old.layout) params.now.queries }
+        requires home { AllByRecursion (λ query. ArePickedHome query self.old.layout)
+            params.now.queries }
         requires apart { ConflictWithin params.now → ⊥ }
         requires coming { self.old.state.world.clock < tick }
         ensures params { IfOk result (λ view. view.value.params ≡ params.now) }
-        ensures shown { IfOk result (λ view. view.value.shown ≡ input.shown params.now (memory_of_system self.old.state system) self.old.state granted.now) }
-        ensures untouched { IfOk result (λ view. view.value.outcome ≡ outcome.untouched params.now view.value.shown) }
+        ensures shown { IfOk result (λ view. view.value.shown
+            ≡ input.shown params.now (memory_of_system self.old.state system) self.old.state
+            granted.now) }
+        ensures untouched { IfOk result (λ view. view.value.outcome
+            ≡ outcome.untouched params.now view.value.shown) }
         ensures tick { IfOk result (λ view. view.value.opening.tick ≡ tick) }
-        ensures written { IfOk result (λ view. AllByRecursion (IsWrittenBy params.now.queries self.old.layout) (lent_in view.value.opening.taken)) }
+        ensures written { IfOk result (λ view. AllByRecursion
+            (IsWrittenBy params.now.queries self.old.layout) (lent_in
+            view.value.opening.taken)) }
         ensures lent { IfOk result (λ view. AreLent (store_of self.new) view.value.opening.taken) }
-        ensures out { IfOk result (λ view. (others : List (List Column)) → AreOut (store_of self.old) others → AreOut (store_of self.new) (others ++ view.value.opening.taken)) }
-        ensures away { IfOk result (λ view. self.new ≡ record { state = self.old.state; layout = with_away (lent_in view.value.opening.taken) self.old.layout }) }
-        ensures back { IfOk result (λ view. with_back (lent_in view.value.opening.taken) self.new.layout ≡ self.old.layout) }
+        ensures out { IfOk result (λ view. (others : List (List Column))
+            → AreOut (store_of self.old) others
+            → AreOut (store_of self.new) (others ++ view.value.opening.taken)) }
+        ensures away { IfOk result (λ view. self.new
+            ≡ record {
+              state = self.old.state;
+              layout = with_away (lent_in view.value.opening.taken) self.old.layout;
+            }) }
+        ensures back { IfOk result (λ view. with_back (lent_in view.value.opening.taken)
+            self.new.layout
+            ≡ self.old.layout) }
         ensures err { OnErr result (self.new ≡ self.old) }
     {
         let mut view = kept_or_blank(alloc, self.room.views.take(), params)?;
@@ -305,9 +359,14 @@ impl OpenState {
     /// shown all that is kept.
     pub fn note(&mut self, system: usize, params: &Params, tick: Tick)
         requires known { system < length self.old.state.systems }
-        requires readers { length (memory_of_system self.old.state system).cursors ≡ length params.now.reads }
+        requires readers { length (memory_of_system self.old.state system).cursors
+            ≡ length params.now.reads }
         requires past { tick ≤ self.old.state.world.clock }
-        ensures { self.new ≡ record { state = noted system params.now.reads tick self.old.state; layout = self.old.layout } }
+        ensures { self.new
+            ≡ record {
+              state = noted system params.now.reads tick self.old.state;
+              layout = self.old.layout;
+            } }
     {
         ran_at(
             &mut self.systems,
@@ -321,8 +380,11 @@ impl OpenState {
     /// What a condition answers of the state, for when it was last asked and what its readers have read. Fails only for a failed allocation.
     pub fn ask(&mut self, alloc: Global, condition: usize, cond: &Cond) -> Result<bool, AllocError>
         requires known { condition < length self.old.state.conditions }
-        requires home { AllByRecursion (λ query. ArePickedHome query self.old.layout) (queries_of cond.now) }
-        ensures answer { IfOk result (λ answer. answer ≡ holds cond.now (memory_of_condition self.old.state condition).last_run (memory_of_condition self.old.state condition).cursors self.old.state) }
+        requires home { AllByRecursion (λ query. ArePickedHome query self.old.layout) (queries_of
+            cond.now) }
+        ensures answer { IfOk result (λ answer. answer
+            ≡ holds cond.now (memory_of_condition self.old.state condition).last_run
+            (memory_of_condition self.old.state condition).cursors self.old.state) }
         ensures same { self.new ≡ self.old }
     {
         let memory = &self.conditions[condition];
@@ -341,9 +403,14 @@ impl OpenState {
     /// run, and its readers have read all that is kept.
     pub fn note_condition(&mut self, condition: usize, access: &Params, tick: Tick)
         requires known { condition < length self.old.state.conditions }
-        requires readers { length (memory_of_condition self.old.state condition).cursors ≡ length access.now.reads }
+        requires readers { length (memory_of_condition self.old.state condition).cursors
+            ≡ length access.now.reads }
         requires past { tick ≤ self.old.state.world.clock }
-        ensures { self.new ≡ record { state = asked_at condition access.now.reads tick self.old.state; layout = self.old.layout } }
+        ensures { self.new
+            ≡ record {
+              state = asked_at condition access.now.reads tick self.old.state;
+              layout = self.old.layout;
+            } }
     {
         ran_at(
             &mut self.conditions,
@@ -361,10 +428,19 @@ impl OpenState {
         requires known { system < length self.old.state.systems }
         requires lent { AreLent (store_of self.old) view.value.opening.taken }
         requires past { view.value.opening.tick ≤ self.old.state.world.clock }
-        ensures laid { OnOk result (self.new ≡ record { state = laid system view.value.opening.tick view.value self.old.state; layout = with_back (lent_in view.value.opening.taken) self.old.layout }) }
-        ensures out { OnOk result ((front rest : List (List Column)) → AreOut (store_of self.old) (front ++ (view.value.opening.taken ++ rest)) → AreOut (store_of self.new) (front ++ rest)) }
+        ensures laid { OnOk result (self.new
+            ≡ record {
+              state = laid system view.value.opening.tick view.value self.old.state;
+              layout = with_back (lent_in view.value.opening.taken) self.old.layout;
+            }) }
+        ensures out { OnOk result ((front rest : List (List Column))
+            → AreOut (store_of self.old) (front ++ (view.value.opening.taken ++ rest))
+            → AreOut (store_of self.new) (front ++ rest)) }
         ensures commands { IfOk result (λ commands. commands ≡ view.value.outcome.commands) }
-        ensures spent { IsErrOf result SendFault.NumbersSpent ↔ (has_event_numbers (events_sent view.value.params.writes view.value.outcome.events) self.old.state.events ≡ false) }
+        ensures spent { IsErrOf result SendFault.NumbersSpent
+            ↔ (has_event_numbers (events_sent view.value.params.writes view.value.outcome.events)
+            self.old.state.events
+            ≡ false) }
     {
         self.world.prove_laid();
         let mut view = view;
@@ -380,7 +456,9 @@ impl OpenState {
 fn ran_at(memories: &mut [Memory], at: usize, tick: Tick, reads: &[Event], events: &Events)
     requires known { at < length memories.old }
     requires readers { length (get_or memories.old at no_memory).cursors ≡ length reads.now }
-    ensures { memories.new ≡ update_at at (memory_after_run tick (map event_number reads.now) events.now) memories.old }
+    ensures { memories.new
+        ≡ update_at at (memory_after_run tick (map event_number reads.now) events.now)
+        memories.old }
 {
     let memory = &mut memories[at];
     memory.ran(tick, reads, events);

@@ -42,7 +42,11 @@ pub(crate) fn open_query(
     ensures untouched { IfOk result (λ q. q.cells ≡ untouched_rows q.terms q.rows) }
     ensures taken { IfOk result (λ q. ArePickedOf query.now world.old q.taken) }
     ensures tick { IfOk result (λ q. q.tick ≡ tick) }
-    ensures away { IfOk result (λ q. world.new ≡ record { state = world.old.state; layout = with_away (lent_of q.taken) world.old.layout }) }
+    ensures away { IfOk result (λ q. world.new
+        ≡ record {
+          state = world.old.state;
+          layout = with_away (lent_of q.taken) world.old.layout;
+        }) }
     ensures err { OnErr result (world.new ≡ world.old) }
 {
     // Tell how the layout is that of the state, and that no stamp is above the clock.
@@ -78,13 +82,24 @@ pub(crate) fn open_queries(
     requires apart { (kind : ℕ) → TwoConflictAt queries.now kind → ⊥ }
     requires coming { world.old.state.clock < tick }
     ensures terms { OnOk result (map (λ (q : Sheet). q.terms) opened.new.items ≡ queries.now) }
-    ensures rows { OnOk result (map (λ (q : Sheet). q.rows) opened.new.items ≡ map (λ query. rows_of query last_run world.old.state.slots) queries.now) }
-    ensures untouched { OnOk result (map (λ (q : Sheet). q.cells) opened.new.items ≡ untouched_cells (map (λ (q : Sheet). q.terms) opened.new.items) (map (λ (q : Sheet). q.rows) opened.new.items)) }
-    ensures written { OnOk result (AllByRecursion (IsWrittenBy queries.now world.old.layout) (lent_in (map (λ (q : Sheet). q.taken) opened.new.items))) }
+    ensures rows { OnOk result (map (λ (q : Sheet). q.rows) opened.new.items
+        ≡ map (λ query. rows_of query last_run world.old.state.slots) queries.now) }
+    ensures untouched { OnOk result (map (λ (q : Sheet). q.cells) opened.new.items
+        ≡ untouched_cells (map (λ (q : Sheet). q.terms) opened.new.items) (map
+        (λ (q : Sheet). q.rows) opened.new.items)) }
+    ensures written { OnOk result (AllByRecursion (IsWrittenBy queries.now world.old.layout)
+        (lent_in (map (λ (q : Sheet). q.taken) opened.new.items))) }
     ensures together { OnOk result (AreTogether tick opened.new.items) }
     ensures lent { OnOk result (AreLent world.new (map (λ (q : Sheet). q.taken) opened.new.items)) }
-    ensures away { OnOk result (world.new ≡ record { state = world.old.state; layout = with_away (lent_in (map (λ (q : Sheet). q.taken) opened.new.items)) world.old.layout }) }
-    ensures back { OnOk result (with_back (lent_in (map (λ (q : Sheet). q.taken) opened.new.items)) world.new.layout ≡ world.old.layout) }
+    ensures away { OnOk result (world.new
+        ≡ record {
+          state = world.old.state;
+          layout = with_away (lent_in (map (λ (q : Sheet). q.taken) opened.new.items))
+              world.old.layout;
+        }) }
+    ensures back { OnOk result (with_back (lent_in (map (λ (q : Sheet). q.taken) opened.new.items))
+        world.new.layout
+        ≡ world.old.layout) }
     ensures none { OnErr result (opened.new.items ≡ []) }
     ensures err { OnErr result (world.new ≡ world.old) }
 {

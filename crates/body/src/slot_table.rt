@@ -18,7 +18,8 @@ use std::alloc::AllocError;
 
 // Whether one of these terms fetches a kind.
 fn any_fetches(terms: &[Term], kind: Kind) -> bool
-    ensures { result ≡ list_any (λ term. is_number (kind_number kind) (fetched (term_of term))) terms.now }
+    ensures { result
+        ≡ list_any (λ term. is_number (kind_number kind) (fetched (term_of term))) terms.now }
 {
     terms.iter().any(|term| term.fetches(kind))
 }
@@ -38,7 +39,8 @@ pub(crate) fn no_slots(
     archetypes: usize,
 ) -> Result<Vec<ColumnIndex>, AllocError>
     requires { slots.items ≡ [] }
-    ensures { IfOk result (λ slots. slots.items ≡ replicate archetypes (record { columns = replicate kind_count None })) }
+    ensures { IfOk result (λ slots. slots.items
+        ≡ replicate archetypes (record { columns = replicate kind_count None })) }
 {
     let mut slots = slots;
     slots.reserve(archetypes)?;
@@ -53,7 +55,8 @@ pub(crate) fn no_slots(
 // Notes the number of the column of a kind in an archetype.
 fn set_slot(slots: &mut Vec<ColumnIndex>, archetype: usize, kind: Kind, column: u32)
     requires { archetype < length slots.old.items }
-    ensures slots { map slots_seen slots.new.items ≡ with_slot archetype (kind_number kind) column (map slots_seen slots.old.items) }
+    ensures slots { map slots_seen slots.new.items
+        ≡ with_slot archetype (kind_number kind) column (map slots_seen slots.old.items) }
     ensures kind { kind_number kind < kind_count }
 {
     prove_kinds_apart();
@@ -64,7 +67,9 @@ fn set_slot(slots: &mut Vec<ColumnIndex>, archetype: usize, kind: Kind, column: 
 // Notes the number of a column, if its kind is fetched.
 fn add_slot(slots: &mut Vec<ColumnIndex>, terms: &[Term], held: &ViewColumn, column: u32)
     requires { (held_seen held.now).archetype < length slots.old.items }
-    ensures slots { map slots_seen slots.new.items ≡ is_slot_kind (map term_of terms.now) (held_seen held.now) column (map slots_seen slots.old.items) }
+    ensures slots { map slots_seen slots.new.items
+        ≡ is_slot_kind (map term_of terms.now) (held_seen held.now) column (map slots_seen
+        slots.old.items) }
     ensures kind { (held_seen held.now).kind < kind_count }
 {
     prove_kinds_apart();
@@ -81,10 +86,13 @@ pub(crate) fn fill_slots(
     columns: &[ViewColumn],
     count: u32,
 )
-    requires empty { slots.old.items ≡ replicate (length slots.old.items) (record { columns = replicate kind_count None }) }
-    requires within { AllByRecursion (λ column. column.archetype < length slots.old.items) (map held_seen columns.now) }
+    requires empty { slots.old.items
+        ≡ replicate (length slots.old.items) (record { columns = replicate kind_count None }) }
+    requires within { AllByRecursion (λ column. column.archetype < length slots.old.items) (map
+        held_seen columns.now) }
     requires count { length columns.now ≡ count }
-    ensures { AreSlotsOf (map term_of terms.now) (length slots.old.items) (map held_seen columns.now) (map slots_seen slots.new.items) }
+    ensures { AreSlotsOf (map term_of terms.now) (length slots.old.items)
+        (map held_seen columns.now) (map slots_seen slots.new.items) }
 {
     for at in 0..count {
         add_slot(slots, terms, &columns[at as usize], at);

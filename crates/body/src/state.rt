@@ -58,7 +58,8 @@ impl Model for State {
 
     ghost Value = { ModelState };
 
-    ghost view = { λ s. counted_state s.world.state s.events s.systems.items s.conditions.items s.passed_over };
+    ghost view = { λ s. counted_state s.world.state s.events s.systems.items s.conditions.items
+        s.passed_over };
 
     ghost invariant = { λ s. IsState s.world s.systems.items s.conditions.items s.passed_over };
 }
@@ -80,9 +81,11 @@ impl State {
 
     /// The state of a world with these events and memories, with nothing passed over.
     pub fn new(world: World, events: Events, memories: Memories) -> Self
-        requires last_runs { AreInTime world.state.clock memories.systems.items memories.conditions.items }
+        requires last_runs { AreInTime world.state.clock memories.systems.items
+            memories.conditions.items }
         requires home { AreAllHome world.layout }
-        ensures { result ≡ state_of world.state events memories.systems.items memories.conditions.items }
+        ensures { result
+            ≡ state_of world.state events memories.systems.items memories.conditions.items }
     {
         let Memories {
             systems,
@@ -107,10 +110,13 @@ impl State {
         passed_over: u64,
         room: Room,
     ) -> Self
-        requires last_runs { AreInTime world.state.clock memories.systems.items memories.conditions.items }
+        requires last_runs { AreInTime world.state.clock memories.systems.items
+            memories.conditions.items }
         requires home { AreAllHome world.layout }
         requires counted { passed_over ≤ most_passed_over }
-        ensures { result ≡ counted_state world.state events memories.systems.items memories.conditions.items passed_over }
+        ensures { result
+            ≡ counted_state world.state events memories.systems.items memories.conditions.items
+            passed_over }
     {
         let Memories {
             systems,

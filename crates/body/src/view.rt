@@ -117,17 +117,28 @@ impl View {
         room: &mut QueryRoom,
     ) -> Result<(), AllocError>
         requires empty { commands ≡ [] }
-        requires home { AllByRecursion (λ query. ArePickedHome query world.old.layout) params.now.queries }
+        requires home { AllByRecursion (λ query. ArePickedHome query world.old.layout)
+            params.now.queries }
         requires apart { ConflictWithin params.now → ⊥ }
         requires coming { world.old.state.clock < tick }
         ensures params { OnOk result (self.new.params ≡ params.now) }
-        ensures shown { OnOk result ((state : State) → state.world ≡ world.old.state → state.events ≡ events.now → self.new.shown ≡ shown params.now memory.now state granted.now) }
-        ensures untouched { OnOk result (self.new.outcome ≡ untouched self.new.params self.new.shown) }
+        ensures shown { OnOk result ((state : State) → state.world ≡ world.old.state
+            → state.events ≡ events.now
+            → self.new.shown ≡ shown params.now memory.now state granted.now) }
+        ensures untouched { OnOk result (self.new.outcome
+            ≡ untouched self.new.params self.new.shown) }
         ensures tick { OnOk result (self.new.opening.tick ≡ tick) }
-        ensures written { OnOk result (AllByRecursion (IsWrittenBy params.now.queries world.old.layout) (lent_in self.new.opening.taken)) }
+        ensures written { OnOk result (AllByRecursion
+            (IsWrittenBy params.now.queries world.old.layout) (lent_in
+            self.new.opening.taken)) }
         ensures lent { OnOk result (AreLent world.new self.new.opening.taken) }
-        ensures away { OnOk result (world.new ≡ record { state = world.old.state; layout = with_away (lent_in self.new.opening.taken) world.old.layout }) }
-        ensures back { OnOk result (with_back (lent_in self.new.opening.taken) world.new.layout ≡ world.old.layout) }
+        ensures away { OnOk result (world.new
+            ≡ record {
+              state = world.old.state;
+              layout = with_away (lent_in self.new.opening.taken) world.old.layout;
+            }) }
+        ensures back { OnOk result (with_back (lent_in self.new.opening.taken) world.new.layout
+            ≡ world.old.layout) }
         ensures err { OnErr result (world.new ≡ world.old) }
     {
         self.unread
@@ -158,8 +169,13 @@ impl View {
 
     /// Sends the events that were emitted. Where one gets no number none is sent; where an allocation fails those of some kinds may have been.
     pub fn send(&self, events: &mut Events) -> Result<(), SendFault>
-        ensures ok { OnOk result (events.new ≡ queues_after (events_sent self.now.params.writes self.now.outcome.events) events.old) }
-        ensures spent { IsErrOf result SendFault.NumbersSpent ↔ (has_event_numbers (events_sent self.now.params.writes self.now.outcome.events) events.old ≡ false) }
+        ensures ok { OnOk result (events.new
+            ≡ queues_after (events_sent self.now.params.writes self.now.outcome.events)
+            events.old) }
+        ensures spent { IsErrOf result SendFault.NumbersSpent
+            ↔ (has_event_numbers (events_sent self.now.params.writes self.now.outcome.events)
+            events.old
+            ≡ false) }
     {
         self.sent.send(events)
     }
@@ -170,8 +186,13 @@ impl View {
     pub fn close(&mut self, world: &mut World, room: &mut QueryRoom) -> ([i64; 8], CommandBuffer)
         requires lent { AreLent world.old self.old.opening.taken }
         requires past { self.old.opening.tick ≤ world.old.state.clock }
-        ensures home { world.new ≡ record { state = world_after self.old.opening.tick self.old world.old.state; layout = with_back (lent_in self.old.opening.taken) world.old.layout } }
-        ensures reach { AreReached world.old.layout (lent_in self.old.opening.taken) (words_written self.old.params.queries self.old.shown.rows self.old.outcome.cells) }
+        ensures home { world.new
+            ≡ record {
+              state = world_after self.old.opening.tick self.old world.old.state;
+              layout = with_back (lent_in self.old.opening.taken) world.old.layout;
+            } }
+        ensures reach { AreReached world.old.layout (lent_in self.old.opening.taken) (words_written
+            self.old.params.queries self.old.shown.rows self.old.outcome.cells) }
         ensures registers { result.0 ≡ self.old.outcome.registers }
         ensures commands { result.1 ≡ self.old.outcome.commands }
     {
@@ -268,8 +289,11 @@ impl View {
     pub fn spawn(&mut self, slot: usize) -> Result<(), AllocError>
         requires declared { is_some self.old.params.spawns ≡ true }
         requires slot { slot < length self.old.shown.granted }
-        requires unspawned { IsIn (granted_at self.old.shown slot) (spawned_by self.old.outcome.commands) → ⊥ }
-        ensures ok { OnOk result (self.new ≡ with_command self.old (Spawn (granted_at self.old.shown slot))) }
+        requires unspawned { IsIn (granted_at self.old.shown slot) (spawned_by
+            self.old.outcome.commands)
+            → ⊥ }
+        ensures ok { OnOk result (self.new
+            ≡ with_command self.old (Spawn (granted_at self.old.shown slot))) }
         ensures err { OnErr result (self.new ≡ self.old) }
     {
         self.issued.spawn(slot)
@@ -278,7 +302,8 @@ impl View {
     /// An entity is to have a component from the sync point on. Where an allocation fails nothing changes.
     pub fn insert<C: Component>(&mut self, e: Entity, component: C) -> Result<(), AllocError>
         requires { is_some self.old.params.spawns ≡ true }
-        ensures ok { OnOk result (self.new ≡ with_command self.old (Insert e C.NUMBER (C.words component))) }
+        ensures ok { OnOk result (self.new
+            ≡ with_command self.old (Insert e C.NUMBER (C.words component))) }
         ensures err { OnErr result (self.new ≡ self.old) }
     {
         self.issued.insert(e, component.into_value())
@@ -344,7 +369,8 @@ impl View {
     pub fn insert_words(&mut self, e: Entity, kind: Kind, words: &[i64]) -> Result<(), AllocError>
         requires declared { is_some self.old.params.spawns ≡ true }
         requires width { length words.now ≡ widths (kind_number kind) }
-        ensures ok { OnOk result (self.new ≡ with_command self.old (Insert e (kind_number kind) words.now)) }
+        ensures ok { OnOk result (self.new
+            ≡ with_command self.old (Insert e (kind_number kind) words.now)) }
         ensures err { OnErr result (self.new ≡ self.old) }
     {
         self.issued.insert(e, Value::of(kind, words))
@@ -355,7 +381,8 @@ impl View {
         requires query { query < length self.old.shown.rows }
         requires row { row < length (rows_at self.old.shown query) }
         requires mut_term { IsTrue (writes (query_at self.old.params query) (value_number value)) }
-        ensures { self.new ≡ with_written self.old query row (value_number value) (value_words value) }
+        ensures { self.new
+            ≡ with_written self.old query row (value_number value) (value_words value) }
     {
         let query = &mut self.queries[query];
         query.write(row, value);
@@ -376,7 +403,9 @@ impl View {
         requires query { query < length self.now.shown.rows }
         requires rows { from + length values.old ≤ length (rows_at self.now.shown query) }
         ensures length { length values.new ≡ length values.old }
-        ensures values { (i : ℕ) → i < length values.old → get_or values.new i (pos 0) ≡ field_read self.now query (from + i) (kind_number kind) place }
+        ensures values { (i : ℕ) → i < length values.old
+            → get_or values.new i (pos 0)
+            ≡ field_read self.now query (from + i) (kind_number kind) place }
     {
         let query = &self.queries[query];
         query.read_field(kind, from, place, values);
@@ -408,7 +437,8 @@ impl View {
     /// of many is best read and written so. None where nothing is gained by it. Its list is that of an order that was given back, if any.
     pub fn order(&mut self, query: usize) -> Result<Option<RowOrder>, AllocError>
         requires { query < length self.old.shown.rows }
-        ensures order { IfOk result (λ found. IfSome found (λ order. IsOrder (length (rows_at self.old.shown query)) order)) }
+        ensures order { IfOk result (λ found. IfSome found (λ order. IsOrder
+            (length (rows_at self.old.shown query)) order)) }
         ensures same { self.new ≡ self.old }
     {
         let mut order = self.take_order();
@@ -439,7 +469,8 @@ impl View {
     pub fn rows_in_turn(&self, query: usize, rows: &[u32]) -> usize
         requires query { query < length self.now.shown.rows }
         requires some { 0 < length rows.now }
-        requires rows { (i : ℕ) → i < length rows.now → get_or rows.now i 0 < length (rows_at self.now.shown query) }
+        requires rows { (i : ℕ) → i < length rows.now
+            → get_or rows.now i 0 < length (rows_at self.now.shown query) }
         ensures some { 0 < result }
         ensures most { result ≤ length rows.now }
         ensures turn { AreInTurnAt (places_at self.now.opening query) rows.now result }
@@ -460,10 +491,13 @@ impl View {
     )
         requires query { query < length self.now.shown.rows }
         requires room { length values.old ≡ length rows.now }
-        requires rows { (i : ℕ) → i < length rows.now → get_or rows.now i 0 < length (rows_at self.now.shown query) }
+        requires rows { (i : ℕ) → i < length rows.now
+            → get_or rows.now i 0 < length (rows_at self.now.shown query) }
         requires turn { AreInTurnAt (places_at self.now.opening query) rows.now (length rows.now) }
         ensures length { length values.new ≡ length values.old }
-        ensures values { (i : ℕ) → i < length values.old → get_or values.new i (pos 0) ≡ field_read self.now query (get_or rows.now i 0) (kind_number kind) place }
+        ensures values { (i : ℕ) → i < length values.old
+            → get_or values.new i (pos 0)
+            ≡ field_read self.now query (get_or rows.now i 0) (kind_number kind) place }
     {
         let query = &self.queries[query];
         query.read_rows(kind, place, rows, values);
@@ -481,11 +515,13 @@ impl View {
     )
         requires query { query < length self.old.shown.rows }
         requires room { length values.now ≡ length rows.now }
-        requires rows { (i : ℕ) → i < length rows.now → get_or rows.now i 0 < length (rows_at self.old.shown query) }
+        requires rows { (i : ℕ) → i < length rows.now
+            → get_or rows.now i 0 < length (rows_at self.old.shown query) }
         requires turn { AreInTurnAt (places_at self.old.opening query) rows.now (length rows.now) }
         requires mut_term { IsTrue (writes (query_at self.old.params query) (kind_number kind)) }
         requires place { place < widths (kind_number kind) }
-        ensures { self.new ≡ with_listed_fields self.old query (kind_number kind) place rows.now values.now }
+        ensures { self.new
+            ≡ with_listed_fields self.old query (kind_number kind) place rows.now values.now }
     {
         let query = &mut self.queries[query];
         query.write_rows(kind, place, rows, values);

@@ -57,7 +57,8 @@ impl ViewColumn {
     // The fields of the component at a place.
     pub(crate) fn words(&self, place: usize) -> Fields
         requires { place < length (held_seen self.now).cells }
-        ensures words { option_map (λ c. c.words) (slice_get (held_seen self.now).cells place) ≡ Some result }
+        ensures words { option_map (λ c. c.words) (slice_get (held_seen self.now).cells place)
+            ≡ Some result }
         ensures width { length result ≡ widths (held_seen self.now).kind }
     {
         self.column().fields(place)
@@ -76,7 +77,8 @@ impl ViewColumn {
         requires written { (held_seen self.old).is_written ≡ true }
         requires kind { (held_seen self.old).kind ≡ value_number value }
         requires within { place < length (held_seen self.old).cells }
-        ensures { held_seen self.new ≡ with_cell place (changed_cell (value_words value) tick) (held_seen self.old) }
+        ensures { held_seen self.new
+            ≡ with_cell place (changed_cell (value_words value) tick) (held_seen self.old) }
     {
         match &mut self.cells {
             ColumnAccess::Written(column) => column.write(place, value, tick),
@@ -88,7 +90,9 @@ impl ViewColumn {
     pub(crate) fn read_field(&self, from: usize, place: usize, values: &mut [i64])
         requires { from + length values.old ≤ length (held_seen self.now).cells }
         ensures length { length values.new ≡ length values.old }
-        ensures values { (i : ℕ) → i < length values.old → get_or values.new i (pos 0) ≡ field_of place (words_of (slice_get (held_seen self.now).cells (from + i))) }
+        ensures values { (i : ℕ) → i < length values.old
+            → get_or values.new i (pos 0)
+            ≡ field_of place (words_of (slice_get (held_seen self.now).cells (from + i))) }
     {
         self.column().read_field(from, place, values);
     }
@@ -99,7 +103,9 @@ impl ViewColumn {
         requires kind { (held_seen self.old).kind ≡ kind_number kind }
         requires within { at < length (held_seen self.old).cells }
         requires place { place < widths (kind_number kind) }
-        ensures { held_seen self.new ≡ with_cell at (field_cell (widths (kind_number kind)) tick place value) (held_seen self.old) }
+        ensures { held_seen self.new
+            ≡ with_cell at (field_cell (widths (kind_number kind)) tick place value) (held_seen
+            self.old) }
     {
         self.write_field(kind, at, place, &[value], tick);
     }
@@ -117,7 +123,9 @@ impl ViewColumn {
         requires kind { (held_seen self.old).kind ≡ kind_number kind }
         requires within { from + length values.now ≤ length (held_seen self.old).cells }
         requires place { place < widths (kind_number kind) }
-        ensures { held_seen self.new ≡ column_with_fields (widths (kind_number kind)) tick place from values.now (held_seen self.old) }
+        ensures { held_seen self.new
+            ≡ column_with_fields (widths (kind_number kind)) tick place from values.now (held_seen
+            self.old) }
     {
         match &mut self.cells {
             ColumnAccess::Written(column) => column.write_field(from, place, values, tick),

@@ -28,7 +28,11 @@ impl Model for ViewCommands {
 
     ghost Value = { IssuedSeen };
 
-    ghost view = { λ v. record { spawns = v.spawns; granted = v.granted.items; commands = v.commands } };
+    ghost view = { λ v. record {
+      spawns = v.spawns;
+      granted = v.granted.items;
+      commands = v.commands;
+    } };
 
     ghost invariant = { λ v. is_some v.spawns ≡ false → v.commands ≡ [] };
 }
@@ -53,7 +57,8 @@ impl ViewCommands {
         commands: CommandBuffer,
     ) -> Result<(), AllocError>
         requires { commands ≡ [] }
-        ensures { OnOk result (self.new ≡ record { spawns = params.now.spawns; granted = granted.now; commands = [] }) }
+        ensures { OnOk result (self.new
+            ≡ record { spawns = params.now.spawns; granted = granted.now; commands = [] }) }
     {
         self.granted.clear();
         self.granted.extend_from_slice(granted)?;
@@ -81,7 +86,8 @@ impl ViewCommands {
     pub(crate) fn spawn(&mut self, slot: usize) -> Result<(), AllocError>
         requires slot { slot < length self.old.granted }
         requires declared { is_some self.old.spawns ≡ true }
-        ensures ok { OnOk result (self.new ≡ with_issued (Spawn (granted_in self.old.granted slot)) self.old) }
+        ensures ok { OnOk result (self.new
+            ≡ with_issued (Spawn (granted_in self.old.granted slot)) self.old) }
         ensures err { OnErr result (self.new ≡ self.old) }
     {
         let entity = self.granted[slot];
@@ -91,7 +97,8 @@ impl ViewCommands {
     // An entity is to have a component.
     pub(crate) fn insert(&mut self, e: Entity, value: Value) -> Result<(), AllocError>
         requires { is_some self.old.spawns ≡ true }
-        ensures ok { OnOk result (self.new ≡ with_issued (Insert e (value_number value) (value_words value)) self.old) }
+        ensures ok { OnOk result (self.new
+            ≡ with_issued (Insert e (value_number value) (value_words value)) self.old) }
         ensures err { OnErr result (self.new ≡ self.old) }
     {
         self.commands.insert_value(e, value)

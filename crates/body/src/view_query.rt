@@ -75,9 +75,13 @@ impl Model for ViewQuery {
 
     ghost use Rattle.body.specs.HeldColumns.{held_seen, slots_seen};
 
-    ghost view = { λ q. sheet_of q.source.tick q.source.query.value (map slots_seen q.source.slots.items) q.source.rows (map held_seen q.taken.value.items) (map held_seen q.columns.items) };
+    ghost view = { λ q. sheet_of q.source.tick q.source.query.value
+        (map slots_seen q.source.slots.items) q.source.rows (map held_seen q.taken.value.items)
+        (map held_seen q.columns.items) };
 
-    ghost invariant = { λ q. IsSheet q.source.tick q.source.query.value (map slots_seen q.source.slots.items) q.source.rows (map held_seen q.taken.value.items) (map held_seen q.columns.items) };
+    ghost invariant = { λ q. IsSheet q.source.tick q.source.query.value
+        (map slots_seen q.source.slots.items) q.source.rows (map held_seen q.taken.value.items)
+        (map held_seen q.columns.items) };
 }
 
 impl ViewQuery {
@@ -90,9 +94,12 @@ impl ViewQuery {
         rows: Rows,
         columns: Vec<ViewColumn>,
     ) -> Self
-        requires { IsPlan tick query.now (map slots_seen slots.items) rows (map held_seen columns.items) }
+        requires { IsPlan tick query.now (map slots_seen slots.items) rows (map held_seen
+            columns.items) }
         ensures terms { result.terms ≡ query.now }
-        ensures rows { result.rows ≡ map (row_of (map slots_seen slots.items) (map held_seen columns.items) query.now) rows }
+        ensures rows { result.rows
+            ≡ map (row_of (map slots_seen slots.items) (map held_seen columns.items) query.now)
+            rows }
         ensures untouched { result.cells ≡ untouched_rows result.terms result.rows }
         ensures taken { result.taken ≡ map held_seen columns.items }
         ensures tick { result.tick ≡ tick }
@@ -131,7 +138,9 @@ impl ViewQuery {
     /// fetch it.
     pub fn get<C: Component>(&self, row: usize) -> Option<C>
         requires { row < length self.now.rows }
-        ensures { option_map C.words result ≡ words_read self.now.terms (get_or self.now.rows row no_row).values (get_or self.now.cells row []) C.NUMBER }
+        ensures { option_map C.words result
+            ≡ words_read self.now.terms (get_or self.now.rows row no_row).values
+            (get_or self.now.cells row []) C.NUMBER }
     {
         let words = self.words(row, C::kind())?;
         Some(C::from_words(words.as_slice()))
@@ -140,7 +149,9 @@ impl ViewQuery {
     /// The fields of the component of a kind of a row, likewise.
     pub fn words(&self, row: usize, kind: Kind) -> Option<Fields>
         requires { row < length self.now.rows }
-        ensures words { result ≡ words_read self.now.terms (get_or self.now.rows row no_row).values (get_or self.now.cells row []) (kind_number kind) }
+        ensures words { result
+            ≡ words_read self.now.terms (get_or self.now.rows row no_row).values
+            (get_or self.now.cells row []) (kind_number kind) }
         ensures width { IfSome result (λ words. length words ≡ widths (kind_number kind)) }
     {
         let at = self.source.rows.at(row);
@@ -180,7 +191,11 @@ impl ViewQuery {
     pub fn set<C: Component>(&mut self, row: usize, component: C)
         requires row { row < length self.old.rows }
         requires mut_term { IsTrue (writes self.old.terms C.NUMBER) }
-        ensures { self.new ≡ record self.old { cells = update_at row (with_words self.old.terms C.NUMBER (C.words component)) self.old.cells } }
+        ensures { self.new
+            ≡ record self.old {
+              cells = update_at row
+                  (with_words self.old.terms C.NUMBER (C.words component)) self.old.cells;
+            } }
     {
         self.write(row, component.into_value());
     }
@@ -189,7 +204,12 @@ impl ViewQuery {
     pub fn write(&mut self, row: usize, value: Value)
         requires row { row < length self.old.rows }
         requires mut_term { IsTrue (writes self.old.terms (value_number value)) }
-        ensures { self.new ≡ record self.old { cells = update_at row (with_words self.old.terms (value_number value) (value_words value)) self.old.cells } }
+        ensures { self.new
+            ≡ record self.old {
+              cells = update_at row
+                  (with_words self.old.terms (value_number value) (value_words value))
+                  self.old.cells;
+            } }
     {
         let at = self.source.rows.at(row);
         set_in(
@@ -206,7 +226,9 @@ impl ViewQuery {
     pub fn read_field(&self, kind: Kind, from: usize, place: usize, values: &mut [i64])
         requires { from + length values.old ≤ length self.now.rows }
         ensures length { length values.new ≡ length values.old }
-        ensures values { (i : ℕ) → i < length values.old → get_or values.new i (pos 0) ≡ field_seen self.now (from + i) (kind_number kind) place }
+        ensures values { (i : ℕ) → i < length values.old
+            → get_or values.new i (pos 0)
+            ≡ field_seen self.now (from + i) (kind_number kind) place }
     {
         if self.source.turn >= IN_TURN {
             read_turns(self, kind, from, place, values);
@@ -222,7 +244,9 @@ impl ViewQuery {
         ensures length { length values.new ≡ length values.old }
         ensures some { 0 < result }
         ensures most { result ≤ length values.old }
-        ensures values { (i : ℕ) → i < result → get_or values.new i (pos 0) ≡ field_seen self.now (from + i) (kind_number kind) place }
+        ensures values { (i : ℕ) → i < result
+            → get_or values.new i (pos 0)
+            ≡ field_seen self.now (from + i) (kind_number kind) place }
     {
         let count = in_turn(&self.source.rows, from, values.len());
         let first = self.source.rows.at(from);
@@ -261,7 +285,8 @@ impl ViewQuery {
         requires place { place < widths (kind_number kind) }
         ensures some { 0 < result }
         ensures most { result ≤ length values.now }
-        ensures written { self.new ≡ sheet_with_fields self.old (kind_number kind) place from (take result values.now) }
+        ensures written { self.new
+            ≡ sheet_with_fields self.old (kind_number kind) place from (take result values.now) }
     {
         let count = in_turn(&self.source.rows, from, values.len());
         let first = self.source.rows.at(from);
@@ -292,7 +317,8 @@ impl ViewQuery {
     // How many of the rows with these numbers stand in turn, from the first on.
     pub(crate) fn rows_in_turn(&self, listed: &[u32]) -> usize
         requires some { 0 < length listed.now }
-        requires rows { (i : ℕ) → i < length listed.now → get_or listed.now i 0 < length self.now.rows }
+        requires rows { (i : ℕ) → i < length listed.now
+            → get_or listed.now i 0 < length self.now.rows }
         ensures some { 0 < result }
         ensures most { result ≤ length listed.now }
         ensures turn { AreInTurnAt self.now.places listed.now result }
@@ -303,10 +329,13 @@ impl ViewQuery {
     // The values of a field of a kind of the rows with these numbers, which stand in turn.
     pub(crate) fn read_rows(&self, kind: Kind, place: usize, listed: &[u32], values: &mut [i64])
         requires room { length values.old ≡ length listed.now }
-        requires rows { (i : ℕ) → i < length listed.now → get_or listed.now i 0 < length self.now.rows }
+        requires rows { (i : ℕ) → i < length listed.now
+            → get_or listed.now i 0 < length self.now.rows }
         requires turn { AreInTurnAt self.now.places listed.now (length listed.now) }
         ensures length { length values.new ≡ length values.old }
-        ensures values { (i : ℕ) → i < length values.old → get_or values.new i (pos 0) ≡ field_seen self.now (get_or listed.now i 0) (kind_number kind) place }
+        ensures values { (i : ℕ) → i < length values.old
+            → get_or values.new i (pos 0)
+            ≡ field_seen self.now (get_or listed.now i 0) (kind_number kind) place }
     {
         let count = listed.len();
         if count == 0 {
@@ -327,11 +356,13 @@ impl ViewQuery {
     // Writes values into a field of a kind of the rows with these numbers, which stand in turn, a value a row.
     pub(crate) fn write_rows(&mut self, kind: Kind, place: usize, listed: &[u32], values: &[i64])
         requires room { length values.now ≡ length listed.now }
-        requires rows { (i : ℕ) → i < length listed.now → get_or listed.now i 0 < length self.old.rows }
+        requires rows { (i : ℕ) → i < length listed.now
+            → get_or listed.now i 0 < length self.old.rows }
         requires turn { AreInTurnAt self.old.places listed.now (length listed.now) }
         requires mut_term { IsTrue (writes self.old.terms (kind_number kind)) }
         requires place { place < widths (kind_number kind) }
-        ensures { self.new ≡ sheet_with_listed_fields self.old (kind_number kind) place listed.now values.now }
+        ensures { self.new
+            ≡ sheet_with_listed_fields self.old (kind_number kind) place listed.now values.now }
     {
         let count = listed.len();
         if count == 0 {
@@ -352,7 +383,9 @@ impl ViewQuery {
 
     /// Gives the columns back: each as it was taken, with what was written laid over it. Its other lists go to this room.
     pub fn close(self, room: &mut QueryRoom) -> Vec<ViewColumn>
-        ensures columns { map held_seen result.items ≡ map (column_after self.tick (words_in_query self.terms self.rows self.cells)) self.taken }
+        ensures columns { map held_seen result.items
+            ≡ map (column_after self.tick (words_in_query self.terms self.rows self.cells))
+            self.taken }
         ensures reach { WritesReach (words_in_query self.terms self.rows self.cells) self.taken }
     {
         let ViewQuery {
@@ -380,8 +413,11 @@ fn slot_of(slots: &[ColumnIndex], archetype: usize, kind: Kind) -> Option<u32>
 // The fields of the component of a kind in a row.
 fn words_at(slots: &[ColumnIndex], columns: &[ViewColumn], at: Row, kind: Kind) -> Option<Fields>
     requires archetype { at.archetype < length slots.now }
-    requires readable { IsReadable (map slots_seen slots.now) (map held_seen columns.now) at (kind_number kind) }
-    ensures words { result ≡ words_of (seen_at (map slots_seen slots.now) (map held_seen columns.now) at (kind_number kind)) }
+    requires readable { IsReadable (map slots_seen slots.now) (map held_seen columns.now) at
+        (kind_number kind) }
+    ensures words { result
+        ≡ words_of (seen_at (map slots_seen slots.now) (map held_seen columns.now) at (kind_number
+        kind)) }
     ensures width { IfSome result (λ words. length words ≡ widths (kind_number kind)) }
 {
     let slot = slot_of(slots, at.archetype as usize, kind)?;
@@ -391,8 +427,11 @@ fn words_at(slots: &[ColumnIndex], columns: &[ViewColumn], at: Row, kind: Kind) 
 // A field of the component of a kind in a row, 0 where it has none.
 fn word_in(slots: &[ColumnIndex], columns: &[ViewColumn], at: Row, kind: Kind, place: usize) -> i64
     requires archetype { at.archetype < length slots.now }
-    requires readable { IsReadable (map slots_seen slots.now) (map held_seen columns.now) at (kind_number kind) }
-    ensures { result ≡ field_of place (words_of (seen_at (map slots_seen slots.now) (map held_seen columns.now) at (kind_number kind))) }
+    requires readable { IsReadable (map slots_seen slots.now) (map held_seen columns.now) at
+        (kind_number kind) }
+    ensures { result
+        ≡ field_of place (words_of (seen_at (map slots_seen slots.now) (map held_seen columns.now)
+        at (kind_number kind))) }
 {
     match slot_of(slots, at.archetype as usize, kind) {
         Some(slot) => columns[slot as usize].word(at.place as usize, place),
@@ -411,7 +450,8 @@ fn write_word_in(
     tick: Tick,
 )
     requires archetype { at.archetype < length slots.now }
-    requires writable { IsWritable (map slots_seen slots.now) (map held_seen columns.old.items) at (kind_number kind) }
+    requires writable { IsWritable (map slots_seen slots.now) (map held_seen columns.old.items) at
+        (kind_number kind) }
     requires place { place < widths (kind_number kind) }
     ensures { map held_seen columns.new.items ≡ at_slot (slot_in (map slots_seen slots.now) at.archetype (kind_number kind))
         (with_cell at.place (changed_cell (words_with (widths (kind_number kind)) place value (unwrap_or (words_of (seen_at (map slots_seen slots.now) (map held_seen columns.old.items) at (kind_number kind))) [])) tick)) (map held_seen columns.old.items) }
@@ -428,8 +468,12 @@ fn write_word_in(
 // Replaces the component in a row, which counts as changed at this tick.
 fn set_at(slots: &[ColumnIndex], columns: &mut [ViewColumn], at: Row, value: Value, tick: Tick)
     requires archetype { at.archetype < length slots.now }
-    requires writable { IsWritable (map slots_seen slots.now) (map held_seen columns.old) at (value_number value) }
-    ensures { map held_seen columns.new ≡ at_slot (slot_in (map slots_seen slots.now) at.archetype (value_number value)) (with_cell at.place (changed_cell (value_words value) tick)) (map held_seen columns.old) }
+    requires writable { IsWritable (map slots_seen slots.now) (map held_seen columns.old) at
+        (value_number value) }
+    ensures { map held_seen columns.new
+        ≡ at_slot (slot_in (map slots_seen slots.now) at.archetype (value_number value))
+        (with_cell at.place (changed_cell (value_words value) tick)) (map held_seen
+        columns.old) }
 {
     match slot_of(slots, at.archetype as usize, value.kind()) {
         Some(slot) => {
@@ -443,8 +487,12 @@ fn set_at(slots: &[ColumnIndex], columns: &mut [ViewColumn], at: Row, value: Val
 // The same in a vector.
 fn set_in(slots: &[ColumnIndex], columns: &mut Vec<ViewColumn>, at: Row, value: Value, tick: Tick)
     requires archetype { at.archetype < length slots.now }
-    requires writable { IsWritable (map slots_seen slots.now) (map held_seen columns.old.items) at (value_number value) }
-    ensures { map held_seen columns.new.items ≡ at_slot (slot_in (map slots_seen slots.now) at.archetype (value_number value)) (with_cell at.place (changed_cell (value_words value) tick)) (map held_seen columns.old.items) }
+    requires writable { IsWritable (map slots_seen slots.now) (map held_seen columns.old.items) at
+        (value_number value) }
+    ensures { map held_seen columns.new.items
+        ≡ at_slot (slot_in (map slots_seen slots.now) at.archetype (value_number value))
+        (with_cell at.place (changed_cell (value_words value) tick)) (map held_seen
+        columns.old.items) }
 {
     set_at(slots, columns, at, value, tick);
 }
@@ -460,9 +508,15 @@ fn read_column(
     values: &mut [i64],
 )
     requires archetype { 0 < length values.old → archetype < length slots.now }
-    requires readable { (i : ℕ) → i < length values.old → IsReadableAt (slot_in (map slots_seen slots.now) archetype (kind_number kind)) (map held_seen columns.now) (kind_number kind) (from + i) }
+    requires readable { (i : ℕ) → i < length values.old
+        → IsReadableAt (slot_in (map slots_seen slots.now) archetype (kind_number kind))
+        (map held_seen columns.now) (kind_number kind) (from + i) }
     ensures length { length values.new ≡ length values.old }
-    ensures values { (i : ℕ) → i < length values.old → get_or values.new i (pos 0) ≡ field_of place (words_of (slot_cell (slot_in (map slots_seen slots.now) archetype (kind_number kind)) (map held_seen columns.now) (from + i))) }
+    ensures values { (i : ℕ) → i < length values.old
+        → get_or values.new i (pos 0)
+        ≡ field_of place (words_of (slot_cell
+        (slot_in (map slots_seen slots.now) archetype (kind_number kind))
+        (map held_seen columns.now) (from + i))) }
 {
     let count = values.len();
     if count == 0 {
@@ -496,9 +550,14 @@ fn write_column(
     tick: Tick,
 )
     requires archetype { 0 < length values.now → archetype < length slots.now }
-    requires writable { (i : ℕ) → i < length values.now → IsWritableAt (slot_in (map slots_seen slots.now) archetype (kind_number kind)) (map held_seen columns.old.items) (kind_number kind) (from + i) }
+    requires writable { (i : ℕ) → i < length values.now
+        → IsWritableAt (slot_in (map slots_seen slots.now) archetype (kind_number kind))
+        (map held_seen columns.old.items) (kind_number kind) (from + i) }
     requires place { place < widths (kind_number kind) }
-    ensures { map held_seen columns.new.items ≡ at_slot (slot_in (map slots_seen slots.now) archetype (kind_number kind)) (column_with_fields (widths (kind_number kind)) tick place from values.now) (map held_seen columns.old.items) }
+    ensures { map held_seen columns.new.items
+        ≡ at_slot (slot_in (map slots_seen slots.now) archetype (kind_number kind))
+        (column_with_fields (widths (kind_number kind)) tick place from values.now) (map
+        held_seen columns.old.items) }
 {
     let count = values.len();
     if count == 0 {
@@ -517,7 +576,8 @@ fn write_column(
 fn read_turns(query: &ViewQuery, kind: Kind, from: usize, place: usize, values: &mut [i64])
     requires { from + length values.old ≤ length query.now.rows }
     ensures length { length values.new ≡ length values.old }
-    ensures values { (i : ℕ) → i < length values.old → get_or values.new i (pos 0) ≡ field_seen query.now (from + i) (kind_number kind) place }
+    ensures values { (i : ℕ) → i < length values.old
+        → get_or values.new i (pos 0) ≡ field_seen query.now (from + i) (kind_number kind) place }
 {
     // Proves that numbers of rows fit.
     let _count = query.rows();
@@ -546,7 +606,8 @@ fn write_turns(query: &mut ViewQuery, kind: Kind, from: usize, place: usize, val
 fn read_each(query: &ViewQuery, kind: Kind, from: usize, place: usize, values: &mut [i64])
     requires { from + length values.old ≤ length query.now.rows }
     ensures length { length values.new ≡ length values.old }
-    ensures values { (i : ℕ) → i < length values.old → get_or values.new i (pos 0) ≡ field_seen query.now (from + i) (kind_number kind) place }
+    ensures values { (i : ℕ) → i < length values.old
+        → get_or values.new i (pos 0) ≡ field_seen query.now (from + i) (kind_number kind) place }
 {
     // Proves that numbers of rows fit.
     let _count = query.rows();

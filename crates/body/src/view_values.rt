@@ -35,7 +35,8 @@ impl Model for ViewValues {
 
     ghost Value = { ValuesSeen };
 
-    ghost view = { λ v. values_over v.params.value v.resources v.written v.registers_shown.value v.registers };
+    ghost view = { λ v. values_over v.params.value v.resources v.written v.registers_shown.value
+        v.registers };
 
     ghost invariant = { λ v. AreWritable v.params.value v.written };
 }
@@ -57,7 +58,8 @@ impl ViewValues {
 
     // What is shown to a system with these parameters and this memory, and nothing written.
     pub(crate) fn open(&mut self, params: &Params, memory: &Memory, world: &World)
-        ensures { self.new ≡ first_values params.now world.now.state.resources memory.now.registers }
+        ensures { self.new
+            ≡ first_values params.now world.now.state.resources memory.now.registers }
     {
         self.params = Snapshot::of(params);
         self.registers = memory.registers();
@@ -68,8 +70,11 @@ impl ViewValues {
 
     // The value of a resource that is named: what was written, else what is shown.
     pub(crate) fn res(&self, resource: Res) -> i64
-        requires { IsTrue (has (res_number resource) self.now.res || has (res_number resource) self.now.res_mut) }
-        ensures { result ≡ value_read self.now.res self.now.res_mut self.now.res_shown self.now.res_mut_shown self.now.written (res_number resource) }
+        requires { IsTrue (has (res_number resource) self.now.res
+            || has (res_number resource) self.now.res_mut) }
+        ensures { result
+            ≡ value_read self.now.res self.now.res_mut self.now.res_shown self.now.res_mut_shown
+            self.now.written (res_number resource) }
     {
         let number = resource.number() as usize;
         match self.written[number] {
@@ -81,7 +86,11 @@ impl ViewValues {
     // Writes a resource that may be written.
     pub(crate) fn set_res(&mut self, resource: Res, value: i64)
         requires { IsTrue (has (res_number resource) self.old.res_mut) }
-        ensures { self.new ≡ record self.old { written = with_value self.old.res_mut (res_number resource) value self.old.written } }
+        ensures { self.new
+            ≡ record self.old {
+              written = with_value self.old.res_mut (res_number resource) value
+                  self.old.written;
+            } }
     {
         self.written[resource.number() as usize] = Some(value);
     }
@@ -112,7 +121,9 @@ impl ViewValues {
     // Lays what was written over the resources of a world, at a tick.
     pub(crate) fn lay(&self, tick: Tick, world: &mut World)
         requires { tick ≤ world.old.state.clock }
-        ensures state { world.new.state ≡ with_resources world.old.state (resources_after tick (value_written self.now.res_mut self.now.written) world.old.state.resources) }
+        ensures state { world.new.state
+            ≡ with_resources world.old.state (resources_after tick
+            (value_written self.now.res_mut self.now.written) world.old.state.resources) }
         ensures layout { world.new.layout ≡ world.old.layout }
     {
         for (number, written) in self.written.iter().enumerate() {
@@ -125,7 +136,8 @@ impl ViewValues {
 
 // Puts the value of each resource of a world in its place.
 fn fill_values(values: &mut [i64; Res::COUNT], world: &World)
-    ensures { (number : ℕ) → value_at values.new number ≡ value_of world.now.state.resources number }
+    ensures { (number : ℕ)
+        → value_at values.new number ≡ value_of world.now.state.resources number }
 {
     // Tells how many resources there are.
     let _now = world.now();

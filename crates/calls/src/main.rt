@@ -115,10 +115,7 @@ fn between_runs(alloc: Global) -> [Test; 3] {
             "an input at the last tick changes nothing",
             refused_input(alloc),
         ),
-        (
-            "a state that is set mends a spoiled engine",
-            mended(alloc),
-        ),
+        ("a state that is set mends a spoiled engine", mended(alloc)),
     ]
 }
 

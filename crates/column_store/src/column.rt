@@ -39,7 +39,11 @@ impl Model for Column {
 
     ghost use Rattle.column_store.specs.Held.{words_in, width_in, room_in};
 
-    ghost view = { λ c. record { kind = kind_number c.kind; words = words_in c.packs; room = room_in c.packs } };
+    ghost view = { λ c. record {
+      kind = kind_number c.kind;
+      words = words_in c.packs;
+      room = room_in c.packs;
+    } };
 
     ghost invariant = { λ c. width_in c.packs ≡ widths (kind_number c.kind) };
 }
@@ -108,7 +112,8 @@ impl Column {
     // The word of a field of the component at a place, 0 where the kind has no such field.
     pub(crate) fn word(&self, place: usize, field: usize) -> i64
         requires { place < length self.now.words }
-        ensures { option_map (λ ws. word_at ws field) (slice_get self.now.words place) ≡ Some result }
+        ensures { option_map (λ ws. word_at ws field) (slice_get self.now.words place)
+            ≡ Some result }
     {
         match &self.packs {
             Packs::Marks(items) => items[place].word(field),
@@ -130,7 +135,8 @@ impl Column {
     pub(crate) fn set(&mut self, place: usize, value: Value)
         requires kind { self.old.kind ≡ value_number value }
         requires within { place < length self.old.words }
-        ensures { self.new ≡ record self.old { words = slice_set self.old.words place (value_words value) } }
+        ensures { self.new
+            ≡ record self.old { words = slice_set self.old.words place (value_words value) } }
     {
         match &mut self.packs {
             Packs::Marks(items) => set_in(items, place, value),
@@ -143,7 +149,9 @@ impl Column {
     pub(crate) fn read_field(&self, from: usize, field: usize, values: &mut [i64])
         requires { from + length values.old ≤ length self.now.words }
         ensures length { length values.new ≡ length values.old }
-        ensures values { (i : ℕ) → i < length values.old → option_map (λ ws. word_at ws field) (slice_get self.now.words (from + i)) ≡ Some (get_or values.new i (pos 0)) }
+        ensures values { (i : ℕ) → i < length values.old
+            → option_map (λ ws. word_at ws field) (slice_get self.now.words (from + i))
+            ≡ Some (get_or values.new i (pos 0)) }
     {
         match &self.packs {
             Packs::Marks(items) => read_in(items, from, field, values),
@@ -156,7 +164,11 @@ impl Column {
     pub(crate) fn write_field(&mut self, from: usize, field: usize, values: &[i64])
         requires field { field < widths self.old.kind }
         requires within { from + length values.now ≤ length self.old.words }
-        ensures { self.new ≡ record self.old { words = with_field_words (widths self.old.kind) field from values.now self.old.words } }
+        ensures { self.new
+            ≡ record self.old {
+              words = with_field_words (widths self.old.kind) field from values.now
+                  self.old.words;
+            } }
     {
         match &mut self.packs {
             Packs::Marks(items) => write_in(items, from, field, values),

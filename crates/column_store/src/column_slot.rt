@@ -101,7 +101,8 @@ impl ColumnSlot {
     // Takes the column, which is at home, out of the slot. Where an allocation fails the slot stays as it was.
     pub(crate) fn lend(&mut self, alloc: Global) -> Result<StampedColumn, AllocError>
         requires { is_home self.old.standing ≡ true }
-        ensures column { IfOk result (λ column. column ≡ record self.old.column { room = column.room }) }
+        ensures column { IfOk result (λ column. column
+            ≡ record self.old.column { room = column.room }) }
         ensures away { OnOk result (seen_slot self.new ≡ standing_at Away (seen_slot self.old)) }
         ensures err { OnErr result (self.new ≡ self.old) }
     {
@@ -119,7 +120,8 @@ impl ColumnSlot {
         requires { is_home self.old.standing ≡ true }
         ensures shared { IfOk result (λ column. arc_value column ≡ self.old.column) }
         ensures ok { OnOk result (self.new ≡ standing_at Shared self.old) }
-        ensures err { OnErr result ((self.new ≡ self.old) ⊎ (self.new ≡ standing_at Shared self.old)) }
+        ensures err { OnErr result ((self.new ≡ self.old)
+            ⊎ (self.new ≡ standing_at Shared self.old)) }
     {
         if let Spot::Shared(shared) = &self.spot {
             return Arc::try_clone(shared);
@@ -230,7 +232,8 @@ fn regained(
 // Takes all columns for the table alone. Where an allocation fails some that were read elsewhere too may be the table's alone.
 pub(crate) fn own_each(columns: &mut [ColumnSlot], alloc: Global) -> Result<(), AllocError>
     requires { AllByRecursion IsAtHome columns.old }
-    ensures ok { OnOk result (map seen_slot columns.new ≡ map (standing_at Owned) (map seen_slot columns.old)) }
+    ensures ok { OnOk result (map seen_slot columns.new
+        ≡ map (standing_at Owned) (map seen_slot columns.old)) }
     ensures alike { AreAlike columns.old columns.new }
 {
     if let Some((column, other_columns)) = columns.split_first_mut() {
@@ -246,7 +249,8 @@ pub(crate) fn copied_slots(
     columns: &[ColumnSlot],
 ) -> Result<Vec<ColumnSlot>, AllocError>
     requires { AllByRecursion IsAtHome columns.now }
-    ensures { IfOk result (λ copies. map seen_slot copies.items ≡ map (standing_at Owned) (map seen_slot columns.now)) }
+    ensures { IfOk result (λ copies. map seen_slot copies.items
+        ≡ map (standing_at Owned) (map seen_slot columns.now)) }
 {
     let mut copies = Vec::with_capacity(alloc, columns.len())?;
     for column in columns {
@@ -319,8 +323,10 @@ pub(crate) fn read_row(
     components: &mut Components,
 ) -> Result<(), AllocError>
     requires { AllByRecursion (HoldsRow row) columns.now }
-    ensures cells { OnOk result (map (λ s. Some (stamped_cell s)) components.new.items ≡ map (cell_at row) columns.now) }
-    ensures kinds { OnOk result (map stamped_number components.new.items ≡ map kind_in columns.now) }
+    ensures cells { OnOk result (map (λ s. Some (stamped_cell s)) components.new.items
+        ≡ map (cell_at row) columns.now) }
+    ensures kinds { OnOk result (map stamped_number components.new.items
+        ≡ map kind_in columns.now) }
 {
     components.clear();
     components.reserve(columns.len())?;

@@ -37,7 +37,10 @@ impl Model for EntityList {
 
     ghost Value = { EntityListValue };
 
-    ghost view = { λ l. record { list = l.list.items; room = min (min (vec_capacity l.list) l.numbers.room) row_limit } };
+    ghost view = { λ l. record {
+      list = l.list.items;
+      room = min (min (vec_capacity l.list) l.numbers.room) row_limit;
+    } };
 
     ghost invariant = { λ l. IsEntityList l.list.items l.listed l.numbers l.copy };
 }
@@ -95,7 +98,8 @@ impl EntityList {
 
     // The row of an entity, found by halving.
     pub(crate) fn row(&self, e: Entity) -> Option<usize>
-        ensures { MatchOption result (IsNowhere (λ x. is_same x e) self.now.list) (IsPlace (λ x. is_same x e) self.now.list) }
+        ensures { MatchOption result (IsNowhere (λ x. is_same x e) self.now.list) (IsPlace
+            (λ x. is_same x e) self.now.list) }
     {
         if self.listed {
             row_by_numbers(&self.list, &self.numbers, e)

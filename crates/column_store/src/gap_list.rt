@@ -24,9 +24,14 @@ impl Model for GapList {
 
     ghost Value = { GapListValue };
 
-    ghost view = { λ l. record { items = l.front.items ++ reverse l.back.items; room = min (vec_capacity l.front) (vec_capacity l.back) } };
+    ghost view = { λ l. record {
+      items = l.front.items
+          ++ reverse l.back.items;
+      room = min (vec_capacity l.front) (vec_capacity l.back);
+    } };
 
-    ghost invariant = { λ l. length l.front.items + length l.back.items ≤ min (vec_capacity l.front) (vec_capacity l.back) };
+    ghost invariant = { λ l. length l.front.items + length l.back.items
+        ≤ min (vec_capacity l.front) (vec_capacity l.back) };
 }
 
 // The same numbers in a list with as much room.
@@ -42,7 +47,8 @@ fn copied_with_room(alloc: Global, numbers: &Vec<u32>) -> Result<Vec<u32>, Alloc
 // Moves the gap to a place before it.
 fn move_back(front: &mut Vec<u32>, back: &mut Vec<u32>, place: usize)
     requires room { vec_len front.old + vec_len back.old ≤ vec_capacity back.old }
-    ensures items { front.new.items ++ reverse back.new.items ≡ front.old.items ++ reverse back.old.items }
+    ensures items { front.new.items ++ reverse back.new.items
+        ≡ front.old.items ++ reverse back.old.items }
     ensures place { place ≤ vec_len front.old → vec_len front.new ≡ place }
     ensures before { vec_len front.old < place → vec_len front.new ≡ vec_len front.old }
     ensures many { vec_len front.new + vec_len back.new ≡ vec_len front.old + vec_len back.old }
@@ -62,7 +68,8 @@ fn move_gap(front: &mut Vec<u32>, back: &mut Vec<u32>, place: usize)
     requires within { place ≤ vec_len front.old + vec_len back.old }
     requires front_room { vec_len front.old + vec_len back.old ≤ vec_capacity front.old }
     requires back_room { vec_len front.old + vec_len back.old ≤ vec_capacity back.old }
-    ensures items { front.new.items ++ reverse back.new.items ≡ front.old.items ++ reverse back.old.items }
+    ensures items { front.new.items ++ reverse back.new.items
+        ≡ front.old.items ++ reverse back.old.items }
     ensures place { vec_len front.new ≡ place }
     ensures many { vec_len front.new + vec_len back.new ≡ vec_len front.old + vec_len back.old }
     ensures front_room { vec_capacity front.new ≡ vec_capacity front.old }

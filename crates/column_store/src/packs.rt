@@ -22,7 +22,8 @@ pub(crate) fn copied<P: Packed>(alloc: Global, items: &[P]) -> Result<Vec<P>, Al
 pub(crate) fn set_in<P: Packed>(items: &mut Vec<P>, place: usize, value: Value)
     requires width { widths (value_number value) ≡ P.WIDTH }
     requires within { place < length items.old.items }
-    ensures words { map P.words items.new.items ≡ slice_set (map P.words items.old.items) place (value_words value) }
+    ensures words { map P.words items.new.items
+        ≡ slice_set (map P.words items.old.items) place (value_words value) }
     ensures room { vec_capacity items.new ≡ vec_capacity items.old }
 {
     items[place] = P::of(value);
@@ -32,7 +33,9 @@ pub(crate) fn set_in<P: Packed>(items: &mut Vec<P>, place: usize, value: Value)
 pub(crate) fn read_in<P: Packed>(items: &[P], from: usize, field: usize, values: &mut [i64])
     requires { from + length values.old ≤ length items.now }
     ensures length { length values.new ≡ length values.old }
-    ensures values { (i : ℕ) → i < length values.old → option_map (λ ws. word_at ws field) (slice_get (map P.words items.now) (from + i)) ≡ Some (get_or values.new i (pos 0)) }
+    ensures values { (i : ℕ) → i < length values.old
+        → option_map (λ ws. word_at ws field) (slice_get (map P.words items.now) (from + i))
+        ≡ Some (get_or values.new i (pos 0)) }
 {
     // Proves that places fit.
     let _count = items.len();
@@ -44,7 +47,8 @@ pub(crate) fn read_in<P: Packed>(items: &[P], from: usize, field: usize, values:
 // Replaces a field of the components from a place on by these values, a value a component.
 pub(crate) fn write_in<P: Packed>(items: &mut Vec<P>, from: usize, field: usize, values: &[i64])
     requires { from + length values.now ≤ length items.old.items }
-    ensures words { map P.words items.new.items ≡ with_field_words P.WIDTH field from values.now (map P.words items.old.items) }
+    ensures words { map P.words items.new.items
+        ≡ with_field_words P.WIDTH field from values.now (map P.words items.old.items) }
     ensures room { vec_capacity items.new ≡ vec_capacity items.old }
 {
     // Proves that places fit.
@@ -60,7 +64,8 @@ pub(crate) fn write_in<P: Packed>(items: &mut Vec<P>, from: usize, field: usize,
 pub(crate) fn push_in<P: Packed>(items: &mut Vec<P>, value: Value)
     requires width { widths (value_number value) ≡ P.WIDTH }
     requires room { length items.old.items < vec_capacity items.old }
-    ensures words { map P.words items.new.items ≡ map P.words items.old.items ++ value_words value ∷ [] }
+    ensures words { map P.words items.new.items
+        ≡ map P.words items.old.items ++ value_words value ∷ [] }
     ensures room { vec_capacity items.new ≡ vec_capacity items.old }
 {
     items.push_reserved(P::of(value));

@@ -20,7 +20,8 @@ use std::sync::Arc;
 
 // The place of the column of the kind with this number.
 fn number_place(kinds: &[Kind], number: u32) -> Option<usize>
-    ensures { MatchOption result (IsNoKind (map kind_number kinds.now) number) (IsKindPlaced (map kind_number kinds.now) number) }
+    ensures { MatchOption result (IsNoKind (map kind_number kinds.now) number) (IsKindPlaced
+        (map kind_number kinds.now) number) }
 {
     column_in(kinds, number)
 }
@@ -43,8 +44,10 @@ pub(crate) fn find_in(
 ) -> Option<StampedValue>
     requires table { IsTable (map kind_number kinds.now) entities.now columns.now }
     requires within { row < length entities.now }
-    requires home { IsTrue (is_not_away (standing_of (table_of (map kind_number kinds.now) entities.now columns.now) number)) }
-    ensures cell { option_map stamped_cell result ≡ cell_in_row (table_of (map kind_number kinds.now) entities.now columns.now) row number }
+    requires home { IsTrue (is_not_away (standing_of
+        (table_of (map kind_number kinds.now) entities.now columns.now) number)) }
+    ensures cell { option_map stamped_cell result
+        ≡ cell_in_row (table_of (map kind_number kinds.now) entities.now columns.now) row number }
     ensures number { IfSome result (λ s. stamped_number s ≡ number) }
 {
     match number_place(kinds, number) {
@@ -64,8 +67,12 @@ pub(crate) fn write_in(
 )
     requires table { IsTable (map kind_number kinds.now) entities.now columns.old }
     requires within { row < length entities.now }
-    requires there { IsSome (cell_in_row (table_of (map kind_number kinds.now) entities.now columns.old) row (value_number value)) }
-    requires owned { IsTrue (is_own_if (standing_of (table_of (map kind_number kinds.now) entities.now columns.old) (value_number value))) }
+    requires there { IsSome (cell_in_row
+        (table_of (map kind_number kinds.now) entities.now columns.old) row (value_number
+        value)) }
+    requires owned { IsTrue (is_own_if (standing_of
+        (table_of (map kind_number kinds.now) entities.now columns.old) (value_number
+        value))) }
     ensures written { table_of (map kind_number kinds.now) entities.now columns.new
         ≡ write_cell (table_of (map kind_number kinds.now) entities.now columns.old) row (value_number value) (value_words value) tick }
     ensures table { IsTable (map kind_number kinds.now) entities.now columns.new }
@@ -86,7 +93,8 @@ pub(crate) fn lend_in(
     kind: Kind,
 ) -> Result<StampedColumn, AllocError>
     requires table { IsTable (map kind_number kinds.now) entities.now columns.old }
-    requires home { IsHome (standing_of (table_of (map kind_number kinds.now) entities.now columns.old) (kind_number kind)) }
+    requires home { IsHome (standing_of
+        (table_of (map kind_number kinds.now) entities.now columns.old) (kind_number kind)) }
     ensures kind { IfOk result (λ column. column.kind ≡ kind_number kind) }
     ensures cells { IfOk result (λ column. map (λ cell. Some cell) column.cells
         ≡ kind_cells (table_of (map kind_number kinds.now) entities.now columns.old) (kind_number kind)) }
@@ -110,7 +118,8 @@ pub(crate) fn share_in(
     kind: Kind,
 ) -> Result<Arc<StampedColumn, Global>, AllocError>
     requires table { IsTable (map kind_number kinds.now) entities.now columns.old }
-    requires home { IsHome (standing_of (table_of (map kind_number kinds.now) entities.now columns.old) (kind_number kind)) }
+    requires home { IsHome (standing_of
+        (table_of (map kind_number kinds.now) entities.now columns.old) (kind_number kind)) }
     ensures kind { IfOk result (λ column. (arc_value column).kind ≡ kind_number kind) }
     ensures cells { IfOk result (λ column. map (λ cell. Some cell) (arc_value column).cells
         ≡ kind_cells (table_of (map kind_number kinds.now) entities.now columns.old) (kind_number kind)) }
@@ -118,7 +127,8 @@ pub(crate) fn share_in(
         ≡ shared (table_of (map kind_number kinds.now) entities.now columns.old) (kind_number kind)) }
     ensures err { OnErr result ((columns.new ≡ columns.old)
         ⊎ (table_of (map kind_number kinds.now) entities.now columns.new ≡ shared (table_of (map kind_number kinds.now) entities.now columns.old) (kind_number kind))) }
-    ensures alike { IsAlike (table_of (map kind_number kinds.now) entities.now columns.old) (table_of (map kind_number kinds.now) entities.now columns.new) }
+    ensures alike { IsAlike (table_of (map kind_number kinds.now) entities.now columns.old)
+        (table_of (map kind_number kinds.now) entities.now columns.new) }
     ensures table { IsTable (map kind_number kinds.now) entities.now columns.new }
 {
     let Some(place) = kind_place(kinds, kind) else {
@@ -135,7 +145,8 @@ pub(crate) fn seen_in<'a>(
     kind: Kind,
 ) -> &'a StampedColumn
     requires table { IsTable (map kind_number kinds.now) entities.now columns.now }
-    requires home { IsHome (standing_of (table_of (map kind_number kinds.now) entities.now columns.now) (kind_number kind)) }
+    requires home { IsHome (standing_of
+        (table_of (map kind_number kinds.now) entities.now columns.now) (kind_number kind)) }
     ensures kind { result.now.kind ≡ kind_number kind }
     ensures cells { map (λ cell. Some cell) result.now.cells
         ≡ kind_cells (table_of (map kind_number kinds.now) entities.now columns.now) (kind_number kind) }
@@ -154,7 +165,9 @@ pub(crate) fn home_in(
     column: StampedColumn,
 )
     requires table { IsTable (map kind_number kinds.now) entities.now columns.old }
-    requires away { standing_of (table_of (map kind_number kinds.now) entities.now columns.old) column.kind ≡ Some Standing.Away }
+    requires away { standing_of (table_of (map kind_number kinds.now) entities.now columns.old)
+        column.kind
+        ≡ Some Standing.Away }
     requires same_length { length column.cells ≡ length entities.now }
     ensures home { table_of (map kind_number kinds.now) entities.now columns.new
         ≡ homed (table_of (map kind_number kinds.now) entities.now columns.old) column }
@@ -175,7 +188,9 @@ pub(crate) fn copied_kinds(alloc: Global, kinds: &[Kind]) -> Result<Vec<Kind>, A
 
 // Those of all the kinds that are among some.
 pub(crate) fn among(alloc: Global, all: &[Kind], kinds: &[Kind]) -> Result<Vec<Kind>, AllocError>
-    ensures { IfOk result (λ list. list.items ≡ filter (λ kind. list_any (λ k. kind_number k == kind_number kind) kinds.now) all.now) }
+    ensures { IfOk result (λ list. list.items
+        ≡ filter (λ kind. list_any (λ k. kind_number k == kind_number kind) kinds.now)
+        all.now) }
 {
     all.iter()
         .copied()

@@ -13,7 +13,8 @@ use entity_table::Entity;
 
 // Whether a row is there, and its entity comes before another.
 fn comes_before(entities: &[Entity], row: u32, e: Entity) -> bool
-    ensures { result ≡ (nat_lt row (length entities.now) && is_before (entity_at entities.now row) e) }
+    ensures { result
+        ≡ (nat_lt row (length entities.now) && is_before (entity_at entities.now row) e) }
 {
     (row as usize) < entities.len() && is_before(entities[row as usize], e)
 }
@@ -68,7 +69,8 @@ fn gap_in_turn(entities: &[Entity], e: Entity) -> usize
 #[tactic(auto, using(crate::proofs::Rising::id_places))]
 pub(crate) fn row_in_turn(entities: &[Entity], e: Entity) -> Option<usize>
     requires { AreRising entities.now }
-    ensures { MatchOption result (IsNowhere (λ x. is_same x e) entities.now) (IsPlace (λ x. is_same x e) entities.now) }
+    ensures { MatchOption result (IsNowhere (λ x. is_same x e) entities.now) (IsPlace
+        (λ x. is_same x e) entities.now) }
 {
     let row = gap_in_turn(entities, e);
     if row >= entities.len() {
@@ -85,7 +87,8 @@ pub(crate) fn row_in_turn(entities: &[Entity], e: Entity) -> Option<usize>
 pub(crate) fn row_by_numbers(entities: &[Entity], numbers: &GapList, e: Entity) -> Option<usize>
     requires apart { AreApart entities.now }
     requires order { IsOrderOf entities.now numbers.now.items }
-    ensures { MatchOption result (IsNowhere (λ x. is_same x e) entities.now) (IsPlace (λ x. is_same x e) entities.now) }
+    ensures { MatchOption result (IsNowhere (λ x. is_same x e) entities.now) (IsPlace
+        (λ x. is_same x e) entities.now) }
 {
     let place = gap_of(entities, numbers, e, numbers.gap());
     if place >= numbers.len() {

@@ -65,7 +65,12 @@ impl Model for StampedColumn {
 
     ghost Value = { ColumnCells };
 
-    ghost view = { λ c. record { kind = c.column.kind; cells = cells_of c.column.words c.stamps.items; room = min c.column.room (vec_capacity c.stamps) } };
+    ghost view = { λ c. record {
+      kind = c.column.kind;
+      cells = cells_of c.column.words c.stamps.items;
+      room = min c.column.room (vec_capacity
+          c.stamps);
+    } };
 
     ghost invariant = { λ c. length c.column.words ≡ length c.stamps.items };
 }
@@ -144,7 +149,8 @@ impl StampedColumn {
     /// The word of a field of the component at a place, 0 where the kind has no such field.
     pub fn word(&self, place: usize, field: usize) -> i64
         requires { place < length self.now.cells }
-        ensures { option_map (λ c. word_at c.words field) (slice_get self.now.cells place) ≡ Some result }
+        ensures { option_map (λ c. word_at c.words field) (slice_get self.now.cells place)
+            ≡ Some result }
     {
         self.column.word(place, field)
     }
@@ -153,7 +159,11 @@ impl StampedColumn {
     pub fn write(&mut self, place: usize, value: Value, tick: Tick)
         requires kind { self.old.kind ≡ value_number value }
         requires within { place < length self.old.cells }
-        ensures { self.new ≡ record self.old { cells = update_at place (changed_cell (value_words value) tick) self.old.cells } }
+        ensures { self.new
+            ≡ record self.old {
+              cells = update_at place (changed_cell (value_words value) tick)
+                  self.old.cells;
+            } }
     {
         self.column.set(place, value);
         self.stamps[place].changed = tick;
@@ -163,7 +173,9 @@ impl StampedColumn {
     pub fn read_field(&self, from: usize, field: usize, values: &mut [i64])
         requires { from + length values.old ≤ length self.now.cells }
         ensures length { length values.new ≡ length values.old }
-        ensures values { (i : ℕ) → i < length values.old → option_map (λ c. word_at c.words field) (slice_get self.now.cells (from + i)) ≡ Some (get_or values.new i (pos 0)) }
+        ensures values { (i : ℕ) → i < length values.old
+            → option_map (λ c. word_at c.words field) (slice_get self.now.cells (from + i))
+            ≡ Some (get_or values.new i (pos 0)) }
     {
         self.column.read_field(from, field, values);
     }
@@ -173,7 +185,11 @@ impl StampedColumn {
     pub fn write_field(&mut self, from: usize, field: usize, values: &[i64], tick: Tick)
         requires field { field < widths self.old.kind }
         requires within { from + length values.now ≤ length self.old.cells }
-        ensures { self.new ≡ record self.old { cells = with_field_cells (widths self.old.kind) tick field from values.now self.old.cells } }
+        ensures { self.new
+            ≡ record self.old {
+              cells = with_field_cells (widths self.old.kind) tick field from
+                  values.now self.old.cells;
+            } }
     {
         self.column.write_field(from, field, values);
         mark_changed(&mut self.stamps, from, values.len(), tick);
@@ -183,7 +199,11 @@ impl StampedColumn {
     pub fn replace(&mut self, place: usize, component: StampedValue)
         requires kind { self.old.kind ≡ stamped_number component }
         requires within { place < length self.old.cells }
-        ensures { self.new ≡ record self.old { cells = update_at place (λ _. stamped_cell component) self.old.cells } }
+        ensures { self.new
+            ≡ record self.old {
+              cells = update_at place (λ _. stamped_cell component)
+                  self.old.cells;
+            } }
     {
         self.column.set(place, component.value);
         self.stamps[place] = component.stamp;
@@ -193,7 +213,8 @@ impl StampedColumn {
     pub fn push(&mut self, component: StampedValue)
         requires kind { self.old.kind ≡ stamped_number component }
         requires room { length self.old.cells < self.old.room }
-        ensures { self.new ≡ record self.old { cells = self.old.cells ++ stamped_cell component ∷ [] } }
+        ensures { self.new
+            ≡ record self.old { cells = self.old.cells ++ stamped_cell component ∷ [] } }
     {
         self.column.push(component.value);
         self.stamps.push_reserved(component.stamp);

@@ -72,15 +72,18 @@ impl Model for Table {
 
     ghost Value = { TableValue };
 
-    ghost view = { λ t. table_with_room (map kind_number t.kinds.items) t.entities t.columns.items t.room };
+    ghost view = { λ t. table_with_room (map kind_number t.kinds.items) t.entities t.columns.items
+        t.room };
 
-    ghost invariant = { λ t. IsTableWithSpare (map kind_number t.kinds.items) t.entities t.columns.items t.spare t.room };
+    ghost invariant = { λ t. IsTableWithSpare (map kind_number t.kinds.items) t.entities
+        t.columns.items t.spare t.room };
 }
 
 impl Table {
     /// The table of these kinds without rows. It has each of them once, in rising numbers.
     pub fn new(alloc: Global, kinds: &[Kind]) -> Result<Self, AllocError>
-        ensures { IfOk result (λ table. table ≡ empty_table (in_order (map kind_number kinds.now))) }
+        ensures { IfOk result (λ table. table
+            ≡ empty_table (in_order (map kind_number kinds.now))) }
     {
         let kinds = among(alloc, Kind::every(), kinds)?;
         let columns = empty_columns(alloc, &kinds)?;
@@ -136,7 +139,8 @@ impl Table {
 
     /// The entities, row by row, to be read elsewhere too. They are copied only where rows changed since they were asked for last.
     pub fn share_entities(&mut self, alloc: Global) -> Result<Arc<Vec<Entity>, Global>, AllocError>
-        ensures entities { IfOk result (λ list. (arc_value list).items ≡ map (λ row. row.entity) self.old.rows) }
+        ensures entities { IfOk result (λ list. (arc_value list).items
+            ≡ map (λ row. row.entity) self.old.rows) }
         ensures same { self.new ≡ self.old }
     {
         self.entities.share(alloc)
@@ -189,7 +193,8 @@ impl Table {
     pub fn get<C: Component>(&self, e: Entity) -> C
         requires there { IsSome (cell_of_entity self.now e C.NUMBER) }
         requires home { IsTrue (is_not_away (standing_of self.now C.NUMBER)) }
-        ensures { option_map (λ c. c.words) (cell_of_entity self.now e C.NUMBER) ≡ Some (C.words result) }
+        ensures { option_map (λ c. c.words) (cell_of_entity self.now e C.NUMBER)
+            ≡ Some (C.words result) }
     {
         match self.find(self.known_row(e), C::NUMBER) {
             None => unreachable!(),
@@ -245,7 +250,8 @@ impl Table {
         requires absent { IsNone (row_of e self.old.rows) }
         requires kinds { map stamped_number components.now ≡ self.old.kinds }
         requires owned { IsTrue (list_all is_owned self.old.standings) }
-        ensures ok { OnOk result (self.new ≡ record self.old { rows = self.old.rows ++ new_row e components.now ∷ [] }) }
+        ensures ok { OnOk result (self.new
+            ≡ record self.old { rows = self.old.rows ++ new_row e components.now ∷ [] }) }
         ensures err { OnErr result (self.new ≡ self.old) }
     {
         self.reserve(1)?;
@@ -267,7 +273,12 @@ impl Table {
         requires kinds { map stamped_number components.now ≡ self.old.kinds }
         requires owned { IsTrue (list_all is_owned self.old.standings) }
         requires room { 0 < self.old.room }
-        ensures { self.new ≡ record self.old { rows = self.old.rows ++ new_row e components.now ∷ []; room = self.old.room - 1 } }
+        ensures { self.new
+            ≡ record self.old {
+              rows = self.old.rows
+                  ++ new_row e components.now ∷ [];
+              room = self.old.room - 1;
+            } }
     {
         self.entities.push(e);
         push_row(&mut self.columns, components);
@@ -280,7 +291,8 @@ impl Table {
         requires within { row < length self.old.rows }
         requires kinds { map stamped_number components.now ≡ self.old.kinds }
         requires owned { IsTrue (list_all is_owned self.old.standings) }
-        ensures { self.new ≡ record self.old { rows = update_at row (renewed_row components.now) self.old.rows } }
+        ensures { self.new
+            ≡ record self.old { rows = update_at row (renewed_row components.now) self.old.rows } }
     {
         replace_row(&mut self.columns, row, components);
     }
@@ -299,8 +311,11 @@ impl Table {
     fn components(&self, alloc: Global, row: usize) -> Result<Vec<StampedValue>, AllocError>
         requires within { row < length self.now.rows }
         requires home { IsTrue (list_all is_home self.now.standings) }
-        ensures cells { IfOk result (λ components. option_map (λ r. r.cells) (slice_get self.now.rows row) ≡ Some (map (λ s. Some (stamped_cell s)) components.items)) }
-        ensures kinds { IfOk result (λ components. map stamped_number components.items ≡ self.now.kinds) }
+        ensures cells { IfOk result (λ components. option_map (λ r. r.cells) (slice_get
+            self.now.rows row)
+            ≡ Some (map (λ s. Some (stamped_cell s)) components.items)) }
+        ensures kinds { IfOk result (λ components. map stamped_number components.items
+            ≡ self.now.kinds) }
     {
         let mut components = Components::new(alloc);
         self.read(row, &mut components)?;
@@ -311,7 +326,8 @@ impl Table {
     pub fn read(&self, row: usize, components: &mut Components) -> Result<(), AllocError>
         requires within { row < length self.now.rows }
         requires home { IsTrue (list_all is_home self.now.standings) }
-        ensures cells { OnOk result (option_map (λ r. r.cells) (slice_get self.now.rows row) ≡ Some (map (λ s. Some (stamped_cell s)) components.new.items)) }
+        ensures cells { OnOk result (option_map (λ r. r.cells) (slice_get self.now.rows row)
+            ≡ Some (map (λ s. Some (stamped_cell s)) components.new.items)) }
         ensures kinds { OnOk result (map stamped_number components.new.items ≡ self.now.kinds) }
     {
         read_row(&self.columns, row, components)
@@ -322,9 +338,15 @@ impl Table {
     pub fn take(&mut self, alloc: Global, e: Entity) -> Result<Vec<StampedValue>, AllocError>
         requires there { IsSome (row_of e self.old.rows) }
         requires owned { IsTrue (list_all is_owned self.old.standings) }
-        ensures row { IfOk result (λ components. row_of e self.old.rows ≡ Some (new_row e components.items)) }
-        ensures kinds { IfOk result (λ components. map stamped_number components.items ≡ self.old.kinds) }
-        ensures ok { OnOk result (self.new ≡ record self.old { rows = swap_removed self.old.rows (row_number e self.old.rows) }) }
+        ensures row { IfOk result (λ components. row_of e self.old.rows
+            ≡ Some (new_row e components.items)) }
+        ensures kinds { IfOk result (λ components. map stamped_number components.items
+            ≡ self.old.kinds) }
+        ensures ok { OnOk result (self.new
+            ≡ record self.old {
+              rows = swap_removed self.old.rows (row_number e
+                  self.old.rows);
+            }) }
         ensures err { OnErr result (self.new ≡ self.old) }
     {
         let row = self.known_row(e);
@@ -337,7 +359,8 @@ impl Table {
     pub fn column(&self, kind: Kind) -> &StampedColumn
         requires { IsHome (standing_of self.now (kind_number kind)) }
         ensures kind { result.now.kind ≡ kind_number kind }
-        ensures cells { map (λ cell. Some cell) result.now.cells ≡ kind_cells self.now (kind_number kind) }
+        ensures cells { map (λ cell. Some cell) result.now.cells
+            ≡ kind_cells self.now (kind_number kind) }
     {
         seen_in(&self.kinds, self.entities.as_slice(), &self.columns, kind)
     }
@@ -347,7 +370,8 @@ impl Table {
     pub fn lend(&mut self, alloc: Global, kind: Kind) -> Result<StampedColumn, AllocError>
         requires { IsHome (standing_of self.old (kind_number kind)) }
         ensures kind { IfOk result (λ column. column.kind ≡ kind_number kind) }
-        ensures cells { IfOk result (λ column. map (λ cell. Some cell) column.cells ≡ kind_cells self.old (kind_number kind)) }
+        ensures cells { IfOk result (λ column. map (λ cell. Some cell) column.cells
+            ≡ kind_cells self.old (kind_number kind)) }
         ensures away { OnOk result (self.new ≡ lent self.old (kind_number kind)) }
         ensures err { OnErr result (self.new ≡ self.old) }
     {
@@ -372,9 +396,11 @@ impl Table {
     ) -> Result<Arc<StampedColumn, Global>, AllocError>
         requires { IsHome (standing_of self.old (kind_number kind)) }
         ensures kind { IfOk result (λ column. (arc_value column).kind ≡ kind_number kind) }
-        ensures cells { IfOk result (λ column. map (λ cell. Some cell) (arc_value column).cells ≡ kind_cells self.old (kind_number kind)) }
+        ensures cells { IfOk result (λ column. map (λ cell. Some cell) (arc_value column).cells
+            ≡ kind_cells self.old (kind_number kind)) }
         ensures ok { OnOk result (self.new ≡ shared self.old (kind_number kind)) }
-        ensures err { OnErr result ((self.new ≡ record self.old { room = 0 }) ⊎ (self.new ≡ shared self.old (kind_number kind))) }
+        ensures err { OnErr result ((self.new ≡ record self.old { room = 0 })
+            ⊎ (self.new ≡ shared self.old (kind_number kind))) }
         ensures alike { IsAlike self.old self.new }
     {
         self.spare = 0;
@@ -420,7 +446,8 @@ impl Table {
     pub fn set<C: Component>(&mut self, e: Entity, component: C, tick: Tick)
         requires there { IsSome (cell_of_entity self.old e C.NUMBER) }
         requires owned { IsTrue (is_own_if (standing_of self.old C.NUMBER)) }
-        ensures { self.new ≡ write_cell self.old (row_number e self.old.rows) C.NUMBER (C.words component) tick }
+        ensures { self.new
+            ≡ write_cell self.old (row_number e self.old.rows) C.NUMBER (C.words component) tick }
     {
         let row = self.known_row(e);
         self.write(row, component.into_value(), tick);

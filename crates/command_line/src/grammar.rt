@@ -147,7 +147,8 @@ fn is_help(word: &str) -> bool
 
 // These commands as the parser has them.
 fn commands<'a>(alloc: Global, subcommands: &[Subcommand]) -> Result<Vec<Command<'a>>, AllocError>
-    ensures { IfOk result (λ commands. map command_read commands.items ≡ map subcommand_read subcommands.now) }
+    ensures { IfOk result (λ commands. map command_read commands.items
+        ≡ map subcommand_read subcommands.now) }
 {
     let mut commands = Vec::new(alloc);
     for subcommand in subcommands {
@@ -162,7 +163,8 @@ fn add_command<'a>(
     subcommand: &Subcommand,
     commands: &mut Vec<Command<'a>>,
 ) -> Result<(), AllocError>
-    ensures { OnOk result (map command_read commands.new.items ≡ map command_read commands.old.items ++ subcommand_read subcommand.now ∷ []) }
+    ensures { OnOk result (map command_read commands.new.items
+        ≡ map command_read commands.old.items ++ subcommand_read subcommand.now ∷ []) }
 {
     let command = command_of(alloc, subcommand)?;
     commands.push(command)?;
@@ -196,7 +198,8 @@ fn add_argument<'a>(
     argument: &Argument,
     args: &mut Vec<Arg<'a>>,
 ) -> Result<(), AllocError>
-    ensures { OnOk result (map arg_read args.new.items ≡ map arg_read args.old.items ++ argument_read argument.now ∷ []) }
+    ensures { OnOk result (map arg_read args.new.items
+        ≡ map arg_read args.old.items ++ argument_read argument.now ∷ []) }
 {
     args.push(argument_of(alloc, argument))?;
     Ok(())

@@ -89,7 +89,8 @@ impl<'a> Args<'a> {
     /// whatever else is at fault there.
     pub fn read(alloc: Global, words: &'a [String]) -> Result<Args<'a>, LineFault>
         ensures within { IfOk result (λ args. IsWithin args.work) }
-        ensures ok { IfOk result (λ args. asked_for asked_by ecsrun_program words.now ≡ Some (asked_of args)) }
+        ensures ok { IfOk result (λ args. asked_for asked_by ecsrun_program words.now
+            ≡ Some (asked_of args)) }
         ensures err { IfErr result (IsNoWork asked_by ecsrun_program words.now) }
     {
         let grammar = grammar();
@@ -99,7 +100,8 @@ impl<'a> Args<'a> {
 
     // What the matches of a line ask for.
     fn of_matches(alloc: Global, matches: &ArgMatches<'a>) -> Result<Args<'a>, LineFault>
-        ensures ok { IfOk result (λ args. work_in asked_by (subcommand_rows_of matches.now) ≡ Some (asked_of args)) }
+        ensures ok { IfOk result (λ args. work_in asked_by (subcommand_rows_of matches.now)
+            ≡ Some (asked_of args)) }
         ensures err { IfErr result (IsIdle (work_in asked_by (subcommand_rows_of matches.now))) }
     {
         match matches.subcommand() {
@@ -110,7 +112,8 @@ impl<'a> Args<'a> {
 
     // What a command of this name with these values asks for.
     fn of_command(alloc: Global, name: &str, found: &ArgMatches<'a>) -> Result<Args<'a>, LineFault>
-        ensures ok { IfOk result (λ args. asked_by name.now (rows_of (found_of found.now)) ≡ Some (asked_of args)) }
+        ensures ok { IfOk result (λ args. asked_by name.now (rows_of (found_of found.now))
+            ≡ Some (asked_of args)) }
         ensures err { IfErr result (IsIdle (asked_by name.now (rows_of (found_of found.now)))) }
     {
         match work_of(name, found) {

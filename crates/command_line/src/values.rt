@@ -32,7 +32,8 @@ pub(crate) fn is_given(found: &ArgMatches<'_>, name: &str) -> bool
 pub(crate) fn number_or(found: &ArgMatches<'_>, name: &str, most: u32, other: u32) -> Option<u32>
     requires { other ≤ most }
     ensures within { IfSome result (λ number. number ≤ most) }
-    ensures number { result ≡ number_or other most (first_of name.now (rows_of (found_of found.now))) }
+    ensures number { result
+        ≡ number_or other most (first_of name.now (rows_of (found_of found.now))) }
 {
     match found.get_str(name) {
         Some(text) => number_between(text, 0, most),

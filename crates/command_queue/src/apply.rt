@@ -39,9 +39,12 @@ fn gather(
     requires past { tick ≤ world.now.state.clock }
     requires home { AreAllHome world.now.layout }
     requires known { All (λ n. n < length buffers.now) order.now }
-    requires spawns { CanSpawn world.now.state.slots (spawned_by (commands_of buffers.now order.now)) }
+    requires spawns { CanSpawn world.now.state.slots (spawned_by (commands_of buffers.now
+        order.now)) }
     ensures pending { IfOk result (IsPending world.now.state) }
-    ensures done { IfOk result (λ pending. target_of world.now.state pending ≡ apply_buffer tick (record { slots = world.now.state.slots; passed_over = 0 }) (commands_of buffers.now order.now)) }
+    ensures done { IfOk result (λ pending. target_of world.now.state pending
+        ≡ apply_buffer tick (record { slots = world.now.state.slots; passed_over = 0 })
+        (commands_of buffers.now order.now)) }
 {
     let mut pending = Pending::new(list, command_count(buffers, order))?;
     for number in order {
@@ -63,11 +66,14 @@ pub fn apply(
     requires past { tick ≤ world.old.state.clock }
     requires home { AreAllHome world.old.layout }
     requires known { All (λ n. n < length buffers.now) order.now }
-    requires granted { All (IsGranted world.old.state.slots) (spawned_by (commands_of buffers.now order.now)) }
+    requires granted { All (IsGranted world.old.state.slots) (spawned_by (commands_of buffers.now
+        order.now)) }
     requires apart { AreApart (spawned_by (commands_of buffers.now order.now)) }
-    ensures applied { IfOk result (λ passed. record { slots = world.new.state.slots; passed_over = passed }
+    ensures applied { IfOk result
+        (λ passed. record { slots = world.new.state.slots; passed_over = passed }
         ≡ apply_buffer tick (record { slots = world.old.state.slots; passed_over = 0 }) (commands_of buffers.now order.now)) }
-    ensures kept { OnOk result (world.new.state ≡ with_slots (λ _. world.new.state.slots) world.old.state) }
+    ensures kept { OnOk result (world.new.state
+        ≡ with_slots (λ _. world.new.state.slots) world.old.state) }
     ensures err { OnErr result (world.new ≡ world.old) }
     ensures home { AreAllHome world.new.layout }
 {

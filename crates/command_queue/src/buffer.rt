@@ -54,7 +54,8 @@ impl CommandBuffer {
 
     /// The entity is to have a component. Where an allocation fails nothing is issued.
     pub fn insert<C: Component>(&mut self, e: Entity, component: C) -> Result<(), AllocError>
-        ensures ok { OnOk result (self.new ≡ self.old ++ Insert e C.NUMBER (C.words component) ∷ []) }
+        ensures ok { OnOk result (self.new
+            ≡ self.old ++ Insert e C.NUMBER (C.words component) ∷ []) }
         ensures err { OnErr result (self.new ≡ self.old) }
     {
         self.insert_value(e, component.into_value())
@@ -62,7 +63,8 @@ impl CommandBuffer {
 
     /// The entity is to have a component of any kind. Where an allocation fails nothing is issued.
     pub fn insert_value(&mut self, e: Entity, value: Value) -> Result<(), AllocError>
-        ensures ok { OnOk result (self.new ≡ self.old ++ Insert e (value_number value) (value_words value) ∷ []) }
+        ensures ok { OnOk result (self.new
+            ≡ self.old ++ Insert e (value_number value) (value_words value) ∷ []) }
         ensures err { OnErr result (self.new ≡ self.old) }
     {
         self.issue(Command::Insert(e, value))

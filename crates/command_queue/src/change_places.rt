@@ -30,7 +30,9 @@ fn lengthen(list: &mut Vec<Option<usize>>, count: usize) -> Result<(), AllocErro
 // Notes the place of an index in a list.
 fn note(list: &mut Vec<Option<usize>>, index: usize, place: usize)
     requires { index < length list.old.items }
-    ensures { (q : ℕ) → get_or list.new.items q None ≡ cond (index == q) (Some place) (get_or list.old.items q None) }
+    ensures { (q : ℕ)
+        → get_or list.new.items q None
+        ≡ cond (index == q) (Some place) (get_or list.old.items q None) }
 {
     list[index] = Some(place);
 }
@@ -64,7 +66,8 @@ impl ChangePlaces {
 
     // Notes the place of an index.
     pub(crate) fn insert(&mut self, index: u32, place: usize) -> Result<(), AllocError>
-        ensures { OnOk result ((q : ℕ) → place_told self.new q ≡ cond (index == q) (Some place) (place_told self.old q)) }
+        ensures { OnOk result ((q : ℕ)
+            → place_told self.new q ≡ cond (index == q) (Some place) (place_told self.old q)) }
     {
         if (index as usize) < self.listed {
             lengthen(&mut self.list, index as usize + 1)?;

@@ -143,7 +143,8 @@ impl Pending {
         requires placed { ArePlaced self.old.places self.old.changes.items }
         requires told { IsKnownPlace self.old.places self.old.changes.items change.entity.index }
         requires first { place_of change.entity.index self.old.changes.items ≡ None }
-        ensures changes { OnOk result (self.new.changes.items ≡ put_change change self.old.changes.items) }
+        ensures changes { OnOk result (self.new.changes.items
+            ≡ put_change change self.old.changes.items) }
         ensures placed { OnOk result (ArePlaced self.new.places self.new.changes.items) }
         ensures passed { self.new.passed_over ≡ self.old.passed_over }
     {
@@ -157,7 +158,8 @@ impl Pending {
         requires placed { ArePlaced self.old.places self.old.changes.items }
         requires told { IsKnownPlace self.old.places self.old.changes.items e.index }
         requires first { place_of e.index self.old.changes.items ≡ None }
-        ensures changes { OnOk result (self.new.changes.items ≡ put_change (bare_change e) self.old.changes.items) }
+        ensures changes { OnOk result (self.new.changes.items
+            ≡ put_change (bare_change e) self.old.changes.items) }
         ensures placed { OnOk result (ArePlaced self.new.places self.new.changes.items) }
         ensures passed { self.new.passed_over ≡ self.old.passed_over }
     {
@@ -232,7 +234,8 @@ impl Pending {
         requires pending { IsPending world.now.state self.old }
         requires told { IsKnownPlace self.old.places self.old.changes.items e.index }
         ensures pending { OnOk result (IsPending world.now.state self.new) }
-        ensures same { OnOk result (target_of world.now.state self.new ≡ target_of world.now.state self.old) }
+        ensures same { OnOk result (target_of world.now.state self.new
+            ≡ target_of world.now.state self.old) }
         ensures open { IfOk result (IsOpen world.now.state.slots self.new.changes.items e) }
     {
         match self.find(world, e) {
@@ -263,7 +266,9 @@ impl Pending {
         requires pending { IsPending world.now.state self.old }
         requires told { IsKnownPlace self.old.places self.old.changes.items e.index }
         ensures pending { OnOk result (IsPending world.now.state self.new) }
-        ensures done { OnOk result (target_of world.now.state self.new ≡ apply_command tick (target_of world.now.state self.old) (Insert e (value_number value) (value_words value))) }
+        ensures done { OnOk result (target_of world.now.state self.new
+            ≡ apply_command tick (target_of world.now.state self.old) (Insert e
+            (value_number value) (value_words value))) }
     {
         match self.open(alloc, world, e)? {
             None => self.pass_over(),
@@ -284,7 +289,10 @@ impl Pending {
         requires pending { IsPending world.now.state self.old }
         requires told { IsKnownPlace self.old.places self.old.changes.items e.index }
         ensures pending { OnOk result (IsPending world.now.state self.new) }
-        ensures done { (tick : ℕ) → OnOk result (target_of world.now.state self.new ≡ apply_command tick (target_of world.now.state self.old) (Remove e (kind_number kind))) }
+        ensures done { (tick : ℕ)
+            → OnOk result (target_of world.now.state self.new
+            ≡ apply_command tick (target_of world.now.state self.old) (Remove e (kind_number
+            kind))) }
     {
         match self.open(alloc, world, e)? {
             None => self.pass_over(),
@@ -298,7 +306,9 @@ impl Pending {
         requires pending { IsPending world.now.state self.old }
         requires told { IsKnownPlace self.old.places self.old.changes.items e.index }
         ensures pending { OnOk result (IsPending world.now.state self.new) }
-        ensures done { (tick : ℕ) → OnOk result (target_of world.now.state self.new ≡ apply_command tick (target_of world.now.state self.old) (Despawn e)) }
+        ensures done { (tick : ℕ)
+            → OnOk result (target_of world.now.state self.new
+            ≡ apply_command tick (target_of world.now.state self.old) (Despawn e)) }
     {
         match self.find(world, e) {
             EntityState::Dead => self.pass_over(),
@@ -323,9 +333,11 @@ impl Pending {
         requires home { AreAllHome world.now.layout }
         requires pending { IsPending world.now.state self.old }
         requires told { IsKnownPlace self.old.places self.old.changes.items (index_in command) }
-        requires spawns { CanSpawn (target_of world.now.state self.old).slots (spawned_by (command_of command ∷ [])) }
+        requires spawns { CanSpawn (target_of world.now.state self.old).slots (spawned_by
+            (command_of command ∷ [])) }
         ensures pending { OnOk result (IsPending world.now.state self.new) }
-        ensures done { OnOk result (target_of world.now.state self.new ≡ apply_command tick (target_of world.now.state self.old) (command_of command)) }
+        ensures done { OnOk result (target_of world.now.state self.new
+            ≡ apply_command tick (target_of world.now.state self.old) (command_of command)) }
     {
         match command {
             Command::Spawn(e) => {
@@ -349,9 +361,11 @@ impl Pending {
         requires past { tick ≤ world.now.state.clock }
         requires home { AreAllHome world.now.layout }
         requires pending { IsPending world.now.state self.old }
-        requires spawns { CanSpawn (target_of world.now.state self.old).slots (spawned_by (command_of command ∷ [])) }
+        requires spawns { CanSpawn (target_of world.now.state self.old).slots (spawned_by
+            (command_of command ∷ [])) }
         ensures pending { OnOk result (IsPending world.now.state self.new) }
-        ensures done { OnOk result (target_of world.now.state self.new ≡ apply_command tick (target_of world.now.state self.old) (command_of command)) }
+        ensures done { OnOk result (target_of world.now.state self.new
+            ≡ apply_command tick (target_of world.now.state self.old) (command_of command)) }
     {
         self.tell(alloc, index_of(command))?;
         self.known_command(alloc, world, command, tick)
@@ -368,9 +382,12 @@ impl Pending {
         requires past { tick ≤ world.now.state.clock }
         requires home { AreAllHome world.now.layout }
         requires pending { IsPending world.now.state self.old }
-        requires spawns { CanSpawn (target_of world.now.state self.old).slots (spawned_by (map command_of commands.now)) }
+        requires spawns { CanSpawn (target_of world.now.state self.old).slots (spawned_by (map
+            command_of commands.now)) }
         ensures pending { OnOk result (IsPending world.now.state self.new) }
-        ensures done { OnOk result (target_of world.now.state self.new ≡ apply_buffer tick (target_of world.now.state self.old) (map command_of commands.now)) }
+        ensures done { OnOk result (target_of world.now.state self.new
+            ≡ apply_buffer tick (target_of world.now.state self.old) (map command_of
+            commands.now)) }
     {
         for command in commands {
             self.command(alloc, world, *command, tick)?;

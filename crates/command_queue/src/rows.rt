@@ -19,7 +19,8 @@ pub(crate) fn fill_kept(change: &mut EntityChange, world: &World) -> Result<(), 
     requires lasts { is_left_alive change.old.fate ≡ true }
     ensures entity { change.new.entity ≡ change.old.entity }
     ensures lasts { is_left_alive change.new.fate ≡ true }
-    ensures row { OnOk result (components_left change.new.fate ≡ row_at world.now.state.slots change.old.entity.index) }
+    ensures row { OnOk result (components_left change.new.fate
+        ≡ row_at world.now.state.slots change.old.entity.index) }
 {
     let index = change.entity.index;
     match &mut change.fate {
@@ -51,7 +52,8 @@ pub(crate) fn remove_kept(change: &mut EntityChange, number: u32)
     requires { is_left_alive change.old.fate ≡ true }
     ensures entity { change.new.entity ≡ change.old.entity }
     ensures lasts { is_left_alive change.new.fate ≡ true }
-    ensures row { components_left change.new.fate ≡ remove_component number (components_left change.old.fate) }
+    ensures row { components_left change.new.fate
+        ≡ remove_component number (components_left change.old.fate) }
 {
     match &mut change.fate {
         Fate::Lives(components) => take_component(components, number),
@@ -61,7 +63,8 @@ pub(crate) fn remove_kept(change: &mut EntityChange, number: u32)
 
 // Whether a change leaves an entity of its index alive at a generation.
 pub(crate) fn keeps(change: &EntityChange, generation: u32) -> bool
-    ensures { result ≡ (is_left_alive change.now.fate && (change.now.entity.generation == generation)) }
+    ensures { result
+        ≡ (is_left_alive change.now.fate && (change.now.entity.generation == generation)) }
 {
     match &change.fate {
         Fate::Lives(_) => change.entity.generation == generation,

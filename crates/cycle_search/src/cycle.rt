@@ -63,7 +63,9 @@ fn least_place(items: &[usize]) -> usize
 /// The same round trip from its least item.
 fn from_least(alloc: Global, items: &[usize]) -> Result<Vec<usize>, AllocError>
     requires { 0 < length items.now }
-    ensures { IfOk result (λ turned. (least : ℕ) × IsFirstBest nat_lt items.now (length items.now) least × (turned.items ≡ drop least items.now ++ take least items.now)) }
+    ensures { IfOk result (λ turned. (least : ℕ)
+        × IsFirstBest nat_lt items.now (length items.now) least
+        × (turned.items ≡ drop least items.now ++ take least items.now)) }
 {
     let least = least_place(items);
     let mut turned = Vec::from_slice(alloc, &items[least..])?;

@@ -169,7 +169,8 @@ fn open_seconds(
 /// The first item without a height that is ordered before none without one.
 fn first_placeable(ranks: &[Option<usize>], next: &[Option<usize>]) -> Option<usize>
     requires { length ranks.now ≡ length next.now }
-    ensures found { IfSome result (λ n. (n < length ranks.now) × (height_of ranks.now n ≡ None) × (height_of next.now n ≡ None)) }
+    ensures found { IfSome result (λ n. (n < length ranks.now) × (height_of ranks.now n ≡ None)
+        × (height_of next.now n ≡ None)) }
     ensures none { IfNone result (IsStuck ranks.now next.now) }
 {
     for number in 0..ranks.len() {

@@ -70,7 +70,8 @@ pub fn add_run(
     run: u32,
     top: u64,
 ) -> Result<u64, AllocError>
-    ensures drawn { OnOk result (shapes.new.items ≡ shapes.old.items ++ run_shapes run top steps.now) }
+    ensures drawn { OnOk result (shapes.new.items
+        ≡ shapes.old.items ++ run_shapes run top steps.now) }
     ensures end { IfOk result (λ end. end ≡ capped (bottom_of top steps.now + 40)) }
 {
     let tally = tally_of(steps);
@@ -88,7 +89,8 @@ fn add_steps(
     top: u64,
     bottom: u64,
 ) -> Result<(), AllocError>
-    ensures { OnOk result (shapes.new.items ≡ shapes.old.items ++ steps_shapes top bottom [] 0 steps.now) }
+    ensures { OnOk result (shapes.new.items
+        ≡ shapes.old.items ++ steps_shapes top bottom [] 0 steps.now) }
 {
     let mut lanes = Vec::new(alloc);
     let mut at = 0u32;
@@ -109,7 +111,8 @@ fn add_frame(
     steps: u64,
     tally: Tally,
 ) -> Result<(), AllocError>
-    ensures { OnOk result (shapes.new.items ≡ shapes.old.items ++ frame_shapes run top bottom steps tally) }
+    ensures { OnOk result (shapes.new.items
+        ≡ shapes.old.items ++ frame_shapes run top bottom steps tally) }
 {
     shapes.push(Shape::Text {
         x: 8,
@@ -204,7 +207,8 @@ fn add_step(
     top: u64,
     bottom: u64,
 ) -> Result<(), AllocError>
-    ensures { OnOk result (shapes.new.items ≡ shapes.old.items ++ step_shapes top bottom lanes.now at step) }
+    ensures { OnOk result (shapes.new.items
+        ≡ shapes.old.items ++ step_shapes top bottom lanes.now at step) }
 {
     let x = step_x(at);
     match step {
@@ -224,7 +228,9 @@ fn add_finish(
     x: u64,
     top: u64,
 ) -> Result<(), AllocError>
-    ensures { OnOk result (shapes.new.items ≡ shapes.old.items ++ finish_shapes system lanes.now (position (runs_in system) lanes.now) x top) }
+    ensures { OnOk result (shapes.new.items
+        ≡ shapes.old.items
+        ++ finish_shapes system lanes.now (position (runs_in system) lanes.now) x top) }
 {
     let Some(lane) = lane_of(lanes, system) else {
         return Ok(());
@@ -251,7 +257,8 @@ fn add_answer(
     x: u64,
     top: u64,
 ) -> Result<(), AllocError>
-    ensures { OnOk result (shapes.new.items ≡ shapes.old.items ++ answer_shapes condition answer x top) }
+    ensures { OnOk result (shapes.new.items
+        ≡ shapes.old.items ++ answer_shapes condition answer x top) }
 {
     let style = if answer {
         Style::Condition
@@ -372,7 +379,8 @@ fn move_lanes(lanes: &mut Vec<Option<Running>>, step: Step, at: u32) -> Result<(
 
 // Puts a system that starts into the first lane that is free.
 fn take_lane(lanes: &mut Vec<Option<Running>>, running: Running) -> Result<(), AllocError>
-    ensures { OnOk result (lanes.new.items ≡ with_running lanes.old.items running (position is_free lanes.old.items)) }
+    ensures { OnOk result (lanes.new.items
+        ≡ with_running lanes.old.items running (position is_free lanes.old.items)) }
 {
     if let Some(lane) = first_free(lanes.as_slice()) {
         put(lanes, lane, Some(running));
@@ -384,7 +392,8 @@ fn take_lane(lanes: &mut Vec<Option<Running>>, running: Running) -> Result<(), A
 
 // Takes a system that finishes out of its lane.
 fn leave_lane(lanes: &mut Vec<Option<Running>>, system: u32)
-    ensures { lanes.new.items ≡ with_free lanes.old.items (position (runs_in system) lanes.old.items) }
+    ensures { lanes.new.items
+        ≡ with_free lanes.old.items (position (runs_in system) lanes.old.items) }
 {
     if let Some(lane) = lane_of(lanes.as_slice(), system) {
         put(lanes, lane, None);

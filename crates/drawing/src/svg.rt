@@ -22,7 +22,9 @@ pub fn text_of_drawing(
     height: u64,
     shapes: &[Shape],
 ) -> Result<String, AllocError>
-    ensures { IfOk result (λ text. string_bytes text ≡ drawing_text OPENER.now RULES.now (map (λ name. name.now) names.now) (map (λ name. name.now) sets.now) width height shapes.now) }
+    ensures { IfOk result (λ text. string_bytes text
+        ≡ drawing_text OPENER.now RULES.now (map (λ name. name.now) names.now)
+        (map (λ name. name.now) sets.now) width height shapes.now) }
 {
     let mut text = String::new(alloc);
     push_head(&mut text, OPENER, RULES, width, height)?;
@@ -39,7 +41,8 @@ fn push_head(
     width: u64,
     height: u64,
 ) -> Result<(), AllocError>
-    ensures { OnOk result (string_bytes text.new ≡ string_bytes text.old ++ head_text opener.now rules.now width height) }
+    ensures { OnOk result (string_bytes text.new
+        ≡ string_bytes text.old ++ head_text opener.now rules.now width height) }
 {
     text.push_str(opener)?;
     push_numbers(text, "width", width, "height", height)?;
@@ -50,7 +53,8 @@ fn push_head(
 
 // Adds an attribute that is a number.
 fn push_number(text: &mut String, name: &str, value: u64) -> Result<(), AllocError>
-    ensures { OnOk result (string_bytes text.new ≡ string_bytes text.old ++ attribute name.now value) }
+    ensures { OnOk result (string_bytes text.new
+        ≡ string_bytes text.old ++ attribute name.now value) }
 {
     write!(text, " {name}='{value}'")
 }
@@ -63,7 +67,8 @@ fn push_numbers(
     other: &str,
     more: u64,
 ) -> Result<(), AllocError>
-    ensures { OnOk result (string_bytes text.new ≡ string_bytes text.old ++ attributes name.now value other.now more) }
+    ensures { OnOk result (string_bytes text.new
+        ≡ string_bytes text.old ++ attributes name.now value other.now more) }
 {
     push_number(text, name, value)?;
     push_number(text, other, more)
@@ -78,7 +83,8 @@ fn push_point(text: &mut String, x: u64, y: u64) -> Result<(), AllocError>
 
 // Adds two places.
 fn push_points(text: &mut String, x: u64, y: u64, to_x: u64, to_y: u64) -> Result<(), AllocError>
-    ensures { OnOk result (string_bytes text.new ≡ string_bytes text.old ++ points_text x y to_x to_y) }
+    ensures { OnOk result (string_bytes text.new
+        ≡ string_bytes text.old ++ points_text x y to_x to_y) }
 {
     push_point(text, x, y)?;
     push_point(text, to_x, to_y)
@@ -86,7 +92,8 @@ fn push_points(text: &mut String, x: u64, y: u64, to_x: u64, to_y: u64) -> Resul
 
 // Adds the beginning of a shape, with its class.
 fn push_opening(text: &mut String, name: &str, style: Style) -> Result<(), AllocError>
-    ensures { OnOk result (string_bytes text.new ≡ string_bytes text.old ++ opening name.now style) }
+    ensures { OnOk result (string_bytes text.new
+        ≡ string_bytes text.old ++ opening name.now style) }
 {
     write!(text, "<{name} class='{style}'")
 }
@@ -98,7 +105,12 @@ fn push_shapes(
     sets: &[&str],
     shapes: &[Shape],
 ) -> Result<(), AllocError>
-    ensures { OnOk result (string_bytes text.new ≡ string_bytes text.old ++ flat_map (shape_text (map (λ name. name.now) names.now) (map (λ name. name.now) sets.now)) shapes.now) }
+    ensures { OnOk result (string_bytes text.new
+        ≡ string_bytes text.old
+        ++ flat_map
+        (shape_text (map (λ name. name.now) names.now) (map (λ name. name.now)
+        sets.now))
+        shapes.now) }
 {
     for shape in shapes {
         push_shape(text, names, sets, *shape)?;
@@ -113,7 +125,10 @@ fn push_shape(
     sets: &[&str],
     shape: Shape,
 ) -> Result<(), AllocError>
-    ensures { OnOk result (string_bytes text.new ≡ string_bytes text.old ++ shape_text (map (λ name. name.now) names.now) (map (λ name. name.now) sets.now) shape) }
+    ensures { OnOk result (string_bytes text.new
+        ≡ string_bytes text.old
+        ++ shape_text (map (λ name. name.now) names.now) (map (λ name. name.now) sets.now)
+        shape) }
 {
     match shape {
         Shape::Rect {
@@ -156,7 +171,8 @@ fn push_rect(
     height: u64,
     style: Style,
 ) -> Result<(), AllocError>
-    ensures { OnOk result (string_bytes text.new ≡ string_bytes text.old ++ rect_text x y width height style) }
+    ensures { OnOk result (string_bytes text.new
+        ≡ string_bytes text.old ++ rect_text x y width height style) }
 {
     push_opening(text, "rect", style)?;
     push_numbers(text, "x", x, "y", y)?;
@@ -174,7 +190,8 @@ fn push_line(
     to_y: u64,
     style: Style,
 ) -> Result<(), AllocError>
-    ensures { OnOk result (string_bytes text.new ≡ string_bytes text.old ++ line_text x y to_x to_y style) }
+    ensures { OnOk result (string_bytes text.new
+        ≡ string_bytes text.old ++ line_text x y to_x to_y style) }
 {
     push_opening(text, "line", style)?;
     push_numbers(text, "x1", x, "y1", y)?;
@@ -194,7 +211,8 @@ fn push_curve(
     to_y: u64,
     style: Style,
 ) -> Result<(), AllocError>
-    ensures { OnOk result (string_bytes text.new ≡ string_bytes text.old ++ curve_text x y near far to_x to_y style) }
+    ensures { OnOk result (string_bytes text.new
+        ≡ string_bytes text.old ++ curve_text x y near far to_x to_y style) }
 {
     push_opening(text, "path", style)?;
     write!(text, " d='M {x} {y} C")?;
@@ -208,7 +226,8 @@ const HALF: u64 = 8;
 
 // Adds the text of a diamond, which lies far enough from the upper and left edges.
 fn push_diamond(text: &mut String, x: u64, y: u64, style: Style) -> Result<(), AllocError>
-    ensures { OnOk result (string_bytes text.new ≡ string_bytes text.old ++ diamond_text x y style) }
+    ensures { OnOk result (string_bytes text.new
+        ≡ string_bytes text.old ++ diamond_text x y style) }
 {
     push_opening(text, "polygon", style)?;
     text.push_str(" points='")?;
@@ -229,7 +248,8 @@ fn push_corners(text: &mut String, x: u64, y: u64) -> Result<(), AllocError>
 
 // Adds the beginning of something written.
 fn push_text_opening(text: &mut String, x: u64, y: u64, style: Style) -> Result<(), AllocError>
-    ensures { OnOk result (string_bytes text.new ≡ string_bytes text.old ++ text_opening x y style) }
+    ensures { OnOk result (string_bytes text.new
+        ≡ string_bytes text.old ++ text_opening x y style) }
 {
     push_opening(text, "text", style)?;
     push_numbers(text, "x", x, "y", y)?;
@@ -244,7 +264,10 @@ fn push_written(
     sets: &[&str],
     label: Label,
 ) -> Result<(), AllocError>
-    ensures { OnOk result (string_bytes text.new ≡ string_bytes text.old ++ written_text (map (λ name. name.now) names.now) (map (λ name. name.now) sets.now) label) }
+    ensures { OnOk result (string_bytes text.new
+        ≡ string_bytes text.old
+        ++ written_text (map (λ name. name.now) names.now) (map (λ name. name.now) sets.now)
+        label) }
 {
     push_label(text, names, sets, label)?;
     text.push_str("</text>\n")?;
@@ -258,7 +281,10 @@ fn push_label(
     sets: &[&str],
     label: Label,
 ) -> Result<(), AllocError>
-    ensures { OnOk result (string_bytes text.new ≡ string_bytes text.old ++ label_text (map (λ name. name.now) names.now) (map (λ name. name.now) sets.now) label) }
+    ensures { OnOk result (string_bytes text.new
+        ≡ string_bytes text.old
+        ++ label_text (map (λ name. name.now) names.now) (map (λ name. name.now) sets.now)
+        label) }
 {
     match label {
         Label::System(system) => {
@@ -287,7 +313,8 @@ fn push_label(
 
 // Adds how many ran at once.
 fn push_at_once(text: &mut String, most: u64, whole: u64, hundredths: u64) -> Result<(), AllocError>
-    ensures { OnOk result (string_bytes text.new ≡ string_bytes text.old ++ at_once_text most whole hundredths) }
+    ensures { OnOk result (string_bytes text.new
+        ≡ string_bytes text.old ++ at_once_text most whole hundredths) }
 {
     let tens = hundredths / 10;
     let ones = hundredths % 10;

@@ -107,7 +107,8 @@ impl<'a> Args<'a> {
     /// `diverge FILE TRACE OTHER` or `steps FILE TRACE [--run N]`, where N is from 1 to 4,294,967,295, spelled in decimal digits alone. Where
     /// `--help` stands in a line it is asked for, whatever else is at fault there.
     pub fn read(alloc: Global, words: &'a [String]) -> Result<Args<'a>, LineFault>
-        ensures ok { IfOk result (λ args. asked_for asked_by ecsview_program words.now ≡ Some (asked_of args)) }
+        ensures ok { IfOk result (λ args. asked_for asked_by ecsview_program words.now
+            ≡ Some (asked_of args)) }
         ensures err { IfErr result (IsNoWork asked_by ecsview_program words.now) }
     {
         let grammar = grammar();
@@ -117,7 +118,8 @@ impl<'a> Args<'a> {
 
     // What the matches of a line ask for.
     fn of_matches(alloc: Global, matches: &ArgMatches<'a>) -> Result<Args<'a>, LineFault>
-        ensures ok { IfOk result (λ args. work_in asked_by (subcommand_rows_of matches.now) ≡ Some (asked_of args)) }
+        ensures ok { IfOk result (λ args. work_in asked_by (subcommand_rows_of matches.now)
+            ≡ Some (asked_of args)) }
         ensures err { IfErr result (IsIdle (work_in asked_by (subcommand_rows_of matches.now))) }
     {
         match matches.subcommand() {
@@ -128,7 +130,8 @@ impl<'a> Args<'a> {
 
     // What a command of this name with these values asks for.
     fn of_command(alloc: Global, name: &str, found: &ArgMatches<'a>) -> Result<Args<'a>, LineFault>
-        ensures ok { IfOk result (λ args. asked_by name.now (rows_of (found_of found.now)) ≡ Some (asked_of args)) }
+        ensures ok { IfOk result (λ args. asked_by name.now (rows_of (found_of found.now))
+            ≡ Some (asked_of args)) }
         ensures err { IfErr result (IsIdle (asked_by name.now (rows_of (found_of found.now)))) }
     {
         match work_of(name, found) {

@@ -23,7 +23,8 @@ use trace_checker::check::check;
 
 /// The drawing of a schedule, as SVG.
 pub fn schedule_text(alloc: Global, loaded: &Loaded<'_>) -> Result<String, Fault>
-    ensures text { IfOk result (λ text. IsScheduleText OPENER.now RULES.now loaded.now (string_bytes text)) }
+    ensures text { IfOk result (λ text. IsScheduleText OPENER.now RULES.now loaded.now (string_bytes
+        text)) }
     ensures memory { IfErr result (λ fault. fault ≡ Fault.Memory) }
 {
     let pairs = report(alloc, &loaded.file.built)?;
@@ -45,8 +46,10 @@ pub fn lanes_text<T: Read>(
     loaded: &Loaded<'_>,
     trace: &mut T,
 ) -> Result<String, Fault>
-    ensures text { IfOk result (λ text. IsLanesText OPENER.now RULES.now loaded.now (T.remaining trace.old) (string_bytes text)) }
-    ensures refused { IfErr result (λ fault. IsTraceUnread (T.remaining trace.old) fault ⊎ IsUndrawn loaded.now.file.built (T.remaining trace.old) fault) }
+    ensures text { IfOk result (λ text. IsLanesText OPENER.now RULES.now loaded.now
+        (T.remaining trace.old) (string_bytes text)) }
+    ensures refused { IfErr result (λ fault. IsTraceUnread (T.remaining trace.old) fault
+        ⊎ IsUndrawn loaded.now.file.built (T.remaining trace.old) fault) }
 {
     let traces = traces_of(alloc, trace)?;
     check_steps(alloc, &loaded.file.built, traces.as_slice())?;
@@ -96,7 +99,8 @@ fn width_of(traces: &[Trace]) -> u64
 
 // Adds the drawings of runs, one below the other. Gives where the last ends.
 fn add_runs(alloc: Global, shapes: &mut Vec<Shape>, traces: &[Trace]) -> Result<u64, AllocError>
-    ensures drawn { OnOk result (shapes.new.items ≡ shapes.old.items ++ lanes_from 0 10 traces.now) }
+    ensures drawn { OnOk result (shapes.new.items
+        ≡ shapes.old.items ++ lanes_from 0 10 traces.now) }
     ensures end { IfOk result (λ end. end ≡ height_from 10 traces.now) }
 {
     let mut top = 10;

@@ -31,7 +31,9 @@ use std::io::Read;
 /// A witness for each pair that races.
 pub fn races_text(alloc: Global, loaded: Loaded<'_>) -> Result<String, Fault>
     ensures text { IfOk result (λ text. IsRacesText loaded.entry (string_bytes text)) }
-    ensures refused { IfErr result (λ fault. IsUngiven (length loaded.entry.entities.items) fault ⊎ IsUnwitnessed loaded.entry.built (meanings_of loaded.entry) (first_of loaded.entry) fault) }
+    ensures refused { IfErr result (λ fault. IsUngiven (length loaded.entry.entities.items) fault
+        ⊎ IsUnwitnessed loaded.entry.built (meanings_of loaded.entry) (first_of loaded.entry)
+        fault) }
 {
     let Loaded {
         built,
@@ -58,8 +60,11 @@ fn witnesses_of(
     pairs: &[Pair],
 ) -> Result<String, Fault>
     requires { HasMemories built.now first.now }
-    ensures refused { IfErr result (IsUnwitnessed built.now (meanings_of_scripts built.now bodies.old) first.now) }
-    ensures races { IfOk result (λ text. AreRaces built.now (meanings_of_scripts built.now bodies.old) first.now (map (λ name. name.now) names.now) pairs.now (races_line (length pairs.now)) (string_bytes text)) }
+    ensures refused { IfErr result (IsUnwitnessed built.now
+        (meanings_of_scripts built.now bodies.old) first.now) }
+    ensures races { IfOk result (λ text. AreRaces built.now
+        (meanings_of_scripts built.now bodies.old) first.now (map (λ name. name.now) names.now)
+        pairs.now (races_line (length pairs.now)) (string_bytes text)) }
 {
     let mut text = String::new(alloc);
     let count = pairs.len();
@@ -80,7 +85,9 @@ fn push_found(
     pair: Pair,
     found: Option<Witness>,
 ) -> Result<(), AllocError>
-    ensures { OnOk result ((more : List ℕ) × IsFindingText (map (λ name. name.now) names.now) pair found more × (string_bytes text.new ≡ string_bytes text.old ++ more)) }
+    ensures { OnOk result ((more : List ℕ)
+        × IsFindingText (map (λ name. name.now) names.now) pair found more
+        × (string_bytes text.new ≡ string_bytes text.old ++ more)) }
 {
     match found {
         Some(witness) => push_witness(alloc, text, names, pair, &witness),
@@ -99,8 +106,13 @@ pub fn diverge_text<F: Read>(
     other: &mut F,
 ) -> Result<(String, u8), Fault>
     requires { AreScriptsOf loaded.built loaded.bodies.items }
-    ensures text { IfOk result (λ shown. IsDivergeText loaded.entry (F.remaining trace.old) (F.remaining other.old) shown.1 (string_bytes shown.0)) }
-    ensures refused { IfErr result (λ fault. IsTraceUnread (F.remaining trace.old) fault ⊎ (IsTraceUnread (F.remaining other.old) fault ⊎ (IsUngiven (length loaded.entry.entities.items) fault ⊎ IsUncompared loaded.entry (F.remaining trace.old) (F.remaining other.old) fault))) }
+    ensures text { IfOk result (λ shown. IsDivergeText loaded.entry (F.remaining trace.old)
+        (F.remaining other.old) shown.1 (string_bytes shown.0)) }
+    ensures refused { IfErr result (λ fault. IsTraceUnread (F.remaining trace.old) fault
+        ⊎ (IsTraceUnread (F.remaining other.old) fault
+        ⊎ (IsUngiven (length loaded.entry.entities.items) fault
+        ⊎ IsUncompared loaded.entry (F.remaining trace.old) (F.remaining other.old)
+        fault))) }
 {
     let one = traces_of(alloc, trace)?;
     let two = traces_of(alloc, other)?;
@@ -130,8 +142,11 @@ fn parting_in(
 ) -> Result<Parting, Fault>
     requires fitting { AreScriptsOf loaded.built loaded.bodies.items }
     requires few { length one.now < 2 ^ 32 }
-    ensures parting { IfOk result (IsParting loaded.entry.built (meanings_of loaded.entry) 0 (first_of loaded.entry) (first_of loaded.entry) one.now two.now) }
-    ensures refused { IfErr result (λ fault. IsUngiven (length loaded.entry.entities.items) fault ⊎ IsUnparted loaded.entry.built (meanings_of loaded.entry) (first_of loaded.entry) (first_of loaded.entry) one.now two.now fault) }
+    ensures parting { IfOk result (IsParting loaded.entry.built (meanings_of loaded.entry) 0
+        (first_of loaded.entry) (first_of loaded.entry) one.now two.now) }
+    ensures refused { IfErr result (λ fault. IsUngiven (length loaded.entry.entities.items) fault
+        ⊎ IsUnparted loaded.entry.built (meanings_of loaded.entry) (first_of loaded.entry)
+        (first_of loaded.entry) one.now two.now fault) }
 {
     let Loaded {
         built,
@@ -155,8 +170,11 @@ pub fn steps_text<T: Read>(
     asked: Option<u32>,
 ) -> Result<String, Fault>
     requires { AreScriptsOf loaded.built loaded.bodies.items }
-    ensures text { IfOk result (λ text. IsStepsText loaded.entry (T.remaining trace.old) asked (string_bytes text)) }
-    ensures refused { IfErr result (λ fault. IsTraceUnread (T.remaining trace.old) fault ⊎ (IsUngiven (length loaded.entry.entities.items) fault ⊎ IsUnshown loaded.entry (T.remaining trace.old) fault)) }
+    ensures text { IfOk result (λ text. IsStepsText loaded.entry (T.remaining trace.old) asked
+        (string_bytes text)) }
+    ensures refused { IfErr result (λ fault. IsTraceUnread (T.remaining trace.old) fault
+        ⊎ (IsUngiven (length loaded.entry.entities.items) fault
+        ⊎ IsUnshown loaded.entry (T.remaining trace.old) fault)) }
 {
     let traces = traces_of(alloc, trace)?;
     let Loaded {
@@ -181,7 +199,8 @@ fn begun(
 ) -> Result<State, Fault>
     ensures memories { IfOk result (HasMemories built.now) }
     ensures refused { IfErr result (IsUngiven (length entities.now)) }
-    ensures first { IfOk result (λ state. state ≡ loaded_state built.now (map entity_given entities.now) resources.now) }
+    ensures first { IfOk result (λ state. state
+        ≡ loaded_state built.now (map entity_given entities.now) resources.now) }
 {
     let state = opening(alloc, built, entities, resources)?;
     Ok(state)

@@ -38,7 +38,9 @@ pub fn view<F: Read, O: Write, E: Write>(
     out: &mut O,
     faults: &mut E,
 ) -> u8
-    ensures { IsViewed OPENER.now RULES.now args.now.work (F.remaining file.old) (F.remaining trace.old) (F.remaining other.old) result (O.contents out.old, O.contents out.new) (E.contents faults.old, E.contents faults.new) }
+    ensures { IsViewed OPENER.now RULES.now args.now.work (F.remaining file.old)
+        (F.remaining trace.old) (F.remaining other.old) result
+        (O.contents out.old, O.contents out.new) (E.contents faults.old, E.contents faults.new) }
 {
     let view = match view_of(alloc, args.work, file, trace, other) {
         Ok(view) => view,
@@ -58,8 +60,10 @@ fn view_of<F: Read>(
     trace: &mut F,
     other: &mut F,
 ) -> Result<Shown, Fault>
-    ensures answered { IfOk result (IsAnswerOn OPENER.now RULES.now work (F.remaining file.old) (F.remaining trace.old) (F.remaining other.old)) }
-    ensures refused { IfErr result (IsRefusalOn work (F.remaining file.old) (F.remaining trace.old) (F.remaining other.old)) }
+    ensures answered { IfOk result (IsAnswerOn OPENER.now RULES.now work (F.remaining file.old)
+        (F.remaining trace.old) (F.remaining other.old)) }
+    ensures refused { IfErr result (IsRefusalOn work (F.remaining file.old) (F.remaining trace.old)
+        (F.remaining other.old)) }
 {
     let document = document_in(alloc, file)?;
     let loaded = load(alloc, &document)?;
@@ -76,8 +80,10 @@ fn answer<F: Read>(
     other: &mut F,
 ) -> Result<Shown, Fault>
     requires { AreScriptsOf loaded.file.built loaded.file.bodies.items }
-    ensures answered { IfOk result (IsAnswer OPENER.now RULES.now work loaded.entry (F.remaining trace.old) (F.remaining other.old)) }
-    ensures refused { IfErr result (IsRefusal work loaded.entry (F.remaining trace.old) (F.remaining other.old)) }
+    ensures answered { IfOk result (IsAnswer OPENER.now RULES.now work loaded.entry
+        (F.remaining trace.old) (F.remaining other.old)) }
+    ensures refused { IfErr result (IsRefusal work loaded.entry (F.remaining trace.old) (F.remaining
+        other.old)) }
 {
     match work {
         Work::Schedule => {

@@ -100,7 +100,8 @@ impl EntityMeta {
 
     /// Makes the entity of the index live.
     pub fn spawn(&mut self)
-        ensures { self.new ≡ record { generation = self.old.generation; status = ModelStatus.Living; row = [] } }
+        ensures { self.new
+            ≡ record { generation = self.old.generation; status = ModelStatus.Living; row = [] } }
     {
         self.status = Status::Living;
     }

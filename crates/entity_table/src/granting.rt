@@ -66,11 +66,14 @@ pub(crate) fn grant_lists(
     counts: &[u32],
 )
     requires kept { vacant.old.rising ≡ vacant_indices places.old.items }
-    requires few { length places.old.items + (sum counts.now - length vacant.old.rising) ≤ most_indices }
-    requires room { vec_len places.old + (sum counts.now - length vacant.old.rising) ≤ vec_capacity places.old }
+    requires few { length places.old.items + (sum counts.now - length vacant.old.rising)
+        ≤ most_indices }
+    requires room { vec_len places.old + (sum counts.now - length vacant.old.rising)
+        ≤ vec_capacity places.old }
     requires lists { AreRoomy 0 counts.now lists.old.items }
     ensures grants { places.new.items ≡ ids.grant_each counts.now places.old.items }
-    ensures ids { map (λ list. list.items) lists.new.items ≡ ids.ids_of_each counts.now places.old.items }
+    ensures ids { map (λ list. list.items) lists.new.items
+        ≡ ids.ids_of_each counts.now places.old.items }
     ensures kept { vacant.new.rising ≡ vacant_indices places.new.items }
     ensures room { vacant.old.room ≤ vacant.new.room }
 {
@@ -88,7 +91,8 @@ pub(crate) fn grant_each(
 )
     requires kept { vacant.old.rising ≡ vacant_indices places.old.items }
     requires few { length places.old.items + (count - length vacant.old.rising) ≤ most_indices }
-    requires room { vec_len places.old + (count - length vacant.old.rising) ≤ vec_capacity places.old }
+    requires room { vec_len places.old + (count - length vacant.old.rising)
+        ≤ vec_capacity places.old }
     requires granted_room { vec_len granted.old + count ≤ vec_capacity granted.old }
     ensures grants { places.new.items ≡ ids.grant count places.old.items }
     ensures ids { granted.new.items ≡ granted.old.items ++ granted_ids count places.old.items }

@@ -21,7 +21,10 @@ impl Model for MinHeap {
 
     ghost Value = { Numbers };
 
-    ghost view = { λ q. record { rising = rising_of (values_of (heap_items q.heap)); room = heap_capacity q.heap } };
+    ghost view = { λ q. record {
+      rising = rising_of (values_of (heap_items q.heap));
+      room = heap_capacity q.heap;
+    } };
 
     ghost invariant = { λ q. IsHeap reverse_cmp (heap_items q.heap) };
 }
@@ -78,7 +81,8 @@ impl MinHeap {
 
     /// Takes the least number out.
     pub fn pop(&mut self) -> Option<u32>
-        ensures least { MatchOption result ((self.old.rising ≡ []) × (self.new.rising ≡ [])) (λ least. self.old.rising ≡ least ∷ self.new.rising) }
+        ensures least { MatchOption result ((self.old.rising ≡ []) × (self.new.rising ≡ []))
+            (λ least. self.old.rising ≡ least ∷ self.new.rising) }
         ensures room { self.new.room ≡ self.old.room }
     {
         let least = self.heap.pop()?;

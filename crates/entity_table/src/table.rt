@@ -128,7 +128,8 @@ impl EntityTable {
     /// The living entity of the least index from this one on. It looks at each index on the way.
     pub fn next_living(&self, from: u32) -> Option<Entity>
         ensures lives { IfSome result (λ e. (from ≤ e.index) × (is_alive self.now e ≡ true)) }
-        ensures least { IfSome result (λ e. (k : ℕ) → from ≤ k → k < e.index → lives_at self.now k ≡ false) }
+        ensures least { IfSome result (λ e. (k : ℕ) → from ≤ k → k < e.index
+            → lives_at self.now k ≡ false) }
         ensures none { IfNone result ((k : ℕ) → from ≤ k → lives_at self.now k ≡ false) }
     {
         next_living_in(self.places.as_slice(), from)
@@ -166,9 +167,11 @@ impl EntityTable {
         counts: &[u32],
         granted: &mut Vec<Vec<Entity>>,
     ) -> Result<(), GrantFault>
-        ensures ok { OnOk result (map (λ list. list.items) granted.new.items ≡ ids.ids_of_each counts.now self.old) }
+        ensures ok { OnOk result (map (λ list. list.items) granted.new.items
+            ≡ ids.ids_of_each counts.now self.old) }
         ensures granted { OnOk result (self.new ≡ ids.grant_each counts.now self.old) }
-        ensures spent { IsErrOf result GrantFault.IdsSpent ↔ (ids.has_ids_for_each counts.now self.old ≡ false) }
+        ensures spent { IsErrOf result GrantFault.IdsSpent
+            ↔ (ids.has_ids_for_each counts.now self.old ≡ false) }
         ensures err { OnErr result (self.new ≡ self.old) }
     {
         let had = self.places.len();
@@ -293,7 +296,8 @@ fn copied_places(alloc: Global, places: &[EntityMeta]) -> Result<Vec<EntityMeta>
 fn next_living_in(places: &[EntityMeta], from: u32) -> Option<Entity>
     requires { length places.now ≤ most_indices }
     ensures lives { IfSome result (λ e. (from ≤ e.index) × (is_alive places.now e ≡ true)) }
-    ensures least { IfSome result (λ e. (k : ℕ) → from ≤ k → k < e.index → lives_at places.now k ≡ false) }
+    ensures least { IfSome result (λ e. (k : ℕ) → from ≤ k → k < e.index
+        → lives_at places.now k ≡ false) }
     ensures none { IfNone result ((k : ℕ) → from ≤ k → lives_at places.now k ≡ false) }
 {
     for index in from as usize..places.len() {

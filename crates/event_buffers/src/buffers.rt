@@ -92,7 +92,8 @@ impl Events {
     /// Sends an event of a kind, with its value. A refused one changes nothing.
     pub fn send(&mut self, kind: Event, value: i64) -> Result<(), SendFault>
         ensures ok { OnOk result (self.new ≡ update_at (event_number kind) (send value) self.old) }
-        ensures spent { IsErrOf result SendFault.NumbersSpent ↔ ((queue_of self.old (event_number kind)).next ≡ last_tick) }
+        ensures spent { IsErrOf result SendFault.NumbersSpent
+            ↔ ((queue_of self.old (event_number kind)).next ≡ last_tick) }
         ensures err { OnErr result (self.new ≡ self.old) }
     {
         let queue = &mut self.queues[kind.number() as usize];
@@ -108,8 +109,10 @@ impl Events {
 
     /// Sends events of a kind, in order. Where one gets no number, or an allocation fails, none is sent.
     pub fn send_all(&mut self, kind: Event, values: &[i64]) -> Result<(), SendFault>
-        ensures ok { OnOk result (self.new ≡ update_at (event_number kind) (send_all values.now) self.old) }
-        ensures spent { IsErrOf result SendFault.NumbersSpent ↔ (can_send values.now (queue_of self.old (event_number kind)) ≡ false) }
+        ensures ok { OnOk result (self.new
+            ≡ update_at (event_number kind) (send_all values.now) self.old) }
+        ensures spent { IsErrOf result SendFault.NumbersSpent
+            ↔ (can_send values.now (queue_of self.old (event_number kind)) ≡ false) }
         ensures err { OnErr result (self.new ≡ self.old) }
     {
         let queue = &mut self.queues[kind.number() as usize];
@@ -118,7 +121,8 @@ impl Events {
 
     /// The kept events of a kind from a cursor on. Allocates nothing.
     pub fn unread(&self, kind: Event, cursor: u64) -> Unread<'_>
-        ensures { result.older.now ++ result.newer.now ≡ unread (queue_of self.now (event_number kind)) cursor }
+        ensures { result.older.now ++ result.newer.now
+            ≡ unread (queue_of self.now (event_number kind)) cursor }
     {
         self.queues[kind.number() as usize].unread(cursor)
     }

@@ -53,7 +53,12 @@ impl EventList {
 
     // Adds the kept events of the kind from a cursor on.
     fn add_unread(&mut self, cursor: u64, events: &Events) -> Result<(), AllocError>
-        ensures { OnOk result (self.new ≡ record { kind = self.old.kind; values = self.old.values ++ unread (queue_of events.now self.old.kind) cursor }) }
+        ensures { OnOk result (self.new
+            ≡ record {
+              kind = self.old.kind;
+              values = self.old.values
+                  ++ unread (queue_of events.now self.old.kind) cursor;
+            }) }
     {
         let unread = events.unread(self.kind, cursor);
         self.values.extend_from_slice(unread.older)?;
@@ -77,7 +82,8 @@ impl EventList {
 
     // Adds an event. A refused one changes nothing.
     fn push(&mut self, value: i64) -> Result<(), AllocError>
-        ensures ok { OnOk result (self.new ≡ record { kind = self.old.kind; values = self.old.values ++ value ∷ [] }) }
+        ensures ok { OnOk result (self.new
+            ≡ record { kind = self.old.kind; values = self.old.values ++ value ∷ [] }) }
         ensures err { OnErr result (self.new ≡ self.old) }
     {
         self.values.push(value)?;
@@ -114,7 +120,12 @@ impl EventLists {
 
     /// Opens an empty list for each of these kinds, in the room of the lists that were. After an error it is to be opened again.
     pub fn open_empty(&mut self, alloc: Global, kinds: &[Event]) -> Result<(), AllocError>
-        ensures { OnOk result (self.new ≡ record { kinds = map event_number kinds.now; values = map (λ kind. []) (map event_number kinds.now) }) }
+        ensures { OnOk result (self.new
+            ≡ record {
+              kinds = map event_number kinds.now;
+              values = map (λ kind. []) (map
+                  event_number kinds.now);
+            }) }
     {
         self.put_away(kinds.len())?;
         for kind in kinds {
@@ -133,7 +144,11 @@ impl EventLists {
         cursors: &[u64],
         events: &Events,
     ) -> Result<(), AllocError>
-        ensures { OnOk result (self.new ≡ record { kinds = map event_number kinds.now; values = unread_of events.now (map event_number kinds.now) cursors.now }) }
+        ensures { OnOk result (self.new
+            ≡ record {
+              kinds = map event_number kinds.now;
+              values = unread_of events.now (map event_number kinds.now) cursors.now;
+            }) }
     {
         self.put_away(kinds.len())?;
         for (place, kind) in kinds.iter().enumerate() {
@@ -185,7 +200,12 @@ impl EventLists {
     /// Adds an event to the first list of its kind. A refused one changes nothing.
     pub fn push(&mut self, kind: Event, value: i64) -> Result<(), AllocError>
         requires { IsTrue (has (event_number kind) self.old.kinds) }
-        ensures ok { OnOk result (self.new ≡ record { kinds = self.old.kinds; values = with_event self.old.kinds (event_number kind) value self.old.values }) }
+        ensures ok { OnOk result (self.new
+            ≡ record {
+              kinds = self.old.kinds;
+              values = with_event self.old.kinds (event_number kind) value
+                  self.old.values;
+            }) }
         ensures err { OnErr result (self.new ≡ self.old) }
     {
         match place_of(self.lists.as_slice(), kind) {
@@ -200,8 +220,10 @@ impl EventLists {
     /// Sends the events, of each kind those of its first list. Where one gets no number none is sent; where an allocation fails those of some
     /// kinds may have been.
     pub fn send(&self, events: &mut Events) -> Result<(), SendFault>
-        ensures ok { OnOk result (events.new ≡ queues_after (events_sent self.now.kinds self.now.values) events.old) }
-        ensures spent { IsErrOf result SendFault.NumbersSpent ↔ (has_event_numbers (events_sent self.now.kinds self.now.values) events.old ≡ false) }
+        ensures ok { OnOk result (events.new
+            ≡ queues_after (events_sent self.now.kinds self.now.values) events.old) }
+        ensures spent { IsErrOf result SendFault.NumbersSpent
+            ↔ (has_event_numbers (events_sent self.now.kinds self.now.values) events.old ≡ false) }
     {
         if self.lists.is_empty() {
             return Ok(());
@@ -217,7 +239,8 @@ impl EventLists {
 
     // Whether the events of every kind get numbers.
     fn can_send(&self, events: &Events) -> bool
-        ensures { result ≡ has_event_numbers (events_sent self.now.kinds self.now.values) events.now }
+        ensures { result
+            ≡ has_event_numbers (events_sent self.now.kinds self.now.values) events.now }
     {
         events.prove_law();
         self.can_send_each(&Event::ALL, events)
@@ -225,21 +248,28 @@ impl EventLists {
 
     // Whether the events of each of these kinds get numbers.
     fn can_send_each(&self, kinds: &[Event], events: &Events) -> bool
-        ensures { result ≡ list_all (λ kind. can_send (events_sent self.now.kinds self.now.values (event_number kind)) (queue_of events.now (event_number kind))) kinds.now }
+        ensures { result
+            ≡ list_all
+            (λ kind. can_send (events_sent self.now.kinds self.now.values (event_number kind))
+            (queue_of events.now (event_number kind)))
+            kinds.now }
     {
         kinds.iter().all(|kind| self.can_send_of(*kind, events))
     }
 
     // Whether the events of a kind get numbers.
     fn can_send_of(&self, kind: Event, events: &Events) -> bool
-        ensures { result ≡ can_send (events_sent self.now.kinds self.now.values (event_number kind)) (queue_of events.now (event_number kind)) }
+        ensures { result
+            ≡ can_send (events_sent self.now.kinds self.now.values (event_number kind)) (queue_of
+            events.now (event_number kind)) }
     {
         events.can_send(kind, self.of_kind(kind))
     }
 
     // Sends the events of every kind.
     fn send_every(&self, events: &mut Events) -> Result<(), SendFault>
-        ensures { OnOk result (events.new ≡ queues_after (events_sent self.now.kinds self.now.values) events.old) }
+        ensures { OnOk result (events.new
+            ≡ queues_after (events_sent self.now.kinds self.now.values) events.old) }
     {
         events.prove_law();
         self.send_each(&Event::ALL, events)
@@ -247,7 +277,9 @@ impl EventLists {
 
     // Sends the events of each of these kinds.
     fn send_each(&self, kinds: &[Event], events: &mut Events) -> Result<(), SendFault>
-        ensures { OnOk result (events.new ≡ sent_in_turn (events_sent self.now.kinds self.now.values) (map event_number kinds.now) events.old) }
+        ensures { OnOk result (events.new
+            ≡ sent_in_turn (events_sent self.now.kinds self.now.values)
+            (map event_number kinds.now) events.old) }
     {
         let Some((kind, others)) = kinds.split_first() else {
             return Ok(());
@@ -258,7 +290,10 @@ impl EventLists {
 
     // Sends the events of a kind.
     fn send_of(&self, kind: Event, events: &mut Events) -> Result<(), SendFault>
-        ensures { OnOk result (events.new ≡ update_at (event_number kind) (send_all (events_sent self.now.kinds self.now.values (event_number kind))) events.old) }
+        ensures { OnOk result (events.new
+            ≡ update_at (event_number kind)
+            (send_all (events_sent self.now.kinds self.now.values (event_number kind)))
+            events.old) }
     {
         events.send_all(kind, self.of_kind(kind))
     }

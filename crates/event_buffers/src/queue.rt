@@ -121,7 +121,8 @@ impl Queue {
     /// Sends events, in order. Where one gets no number, or an allocation fails, none is sent.
     pub fn send_all(&mut self, values: &[i64]) -> Result<(), SendFault>
         ensures ok { OnOk result (self.new ≡ send_all values.now self.old) }
-        ensures spent { IsErrOf result SendFault.NumbersSpent ↔ (can_send values.now self.old ≡ false) }
+        ensures spent { IsErrOf result SendFault.NumbersSpent
+            ↔ (can_send values.now self.old ≡ false) }
         ensures err { OnErr result (self.new ≡ self.old) }
     {
         if !self.can_send(values) {

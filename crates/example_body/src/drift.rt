@@ -56,7 +56,9 @@ fn drift_row(view: &mut View, row: usize)
     requires fits { IsTrue (may_drift view.old.params) }
     requires query { 0 < length view.old.shown.rows }
     requires row { row < length (rows_at view.old.shown 0) }
-    ensures { view.new ≡ with_written view.old 0 row position (moved (read_at view.old 0 row position) (read_at view.old 0 row velocity)) }
+    ensures { view.new
+        ≡ with_written view.old 0 row position (moved (read_at view.old 0 row position) (read_at
+        view.old 0 row velocity)) }
 {
     let place = view
         .get::<Position>(0, row)

@@ -28,7 +28,8 @@ fn text_in_scope<'s, E: 's, R: Threads + Wait + Copy + Send + 's, B: Body + 's>(
     engine: Engine<B>,
     times: u32,
 ) -> Option<String>
-    ensures { IfSome result (λ text. IsPrinted times engine.schedule (meanings B.meaning engine.schedule engine.bodies) engine.state (string_bytes text)) }
+    ensures { IfSome result (λ text. IsPrinted times engine.schedule
+        (meanings B.meaning engine.schedule engine.bodies) engine.state (string_bytes text)) }
 {
     let mut engine = engine;
     let mode = Workers::new(WORKERS, scope, runtime, &NO_GATE);
@@ -53,13 +54,16 @@ pub fn text_after<R: Threads + Wait + Copy + Send + Sync + 'static, B: Body + 's
     engine: Engine<B>,
     times: u32,
 ) -> Option<String>
-    ensures { IfSome result (λ text. IsPrinted times engine.schedule (meanings B.meaning engine.schedule engine.bodies) engine.state (string_bytes text)) }
+    ensures { IfSome result (λ text. IsPrinted times engine.schedule
+        (meanings B.meaning engine.schedule engine.bodies) engine.state (string_bytes text)) }
 {
     thread::scope(
         thread::scope_env(),
         &runtime,
         |scope| -> Option<String>
-            ensures { IfSome result (λ text. IsPrinted times engine.schedule (meanings B.meaning engine.schedule engine.bodies) engine.state (string_bytes text)) }
+            ensures { IfSome result (λ text. IsPrinted times engine.schedule
+                (meanings B.meaning engine.schedule engine.bodies) engine.state (string_bytes
+                text)) }
         { text_in_scope(scope, runtime, alloc, engine, times) },
     )
 }

@@ -67,8 +67,10 @@ impl Counts {
     /// Takes one from each of the counts of these numbers, of which something is left. No number stands there twice.
     pub(crate) fn lower_each(&mut self, numbers: &[u32])
         requires above { (n : ℕ) → has n numbers.now ≡ true → 0 < get_or self.old n 0 }
-        requires once { (i : ℕ) → i < length numbers.now → has (get_or numbers.now i 0) (take i numbers.now) ≡ false }
-        ensures { (n : ℕ) → get_or self.new n 0 + cond (has n numbers.now) 1 0 ≡ get_or self.old n 0 }
+        requires once { (i : ℕ) → i < length numbers.now
+            → has (get_or numbers.now i 0) (take i numbers.now) ≡ false }
+        ensures { (n : ℕ)
+            → get_or self.new n 0 + cond (has n numbers.now) 1 0 ≡ get_or self.old n 0 }
     {
         for number in numbers {
             self.lower(*number);

@@ -67,9 +67,23 @@ impl<'a> Model for Core<'a> {
 
     ghost coded = { stand_code };
 
-    ghost view = { λ c. record { schedule = c.built.now; begun = c.begun; over = c.over; asked = c.asked; yes = c.yes; done = c.done; from = c.from; met = c.met.items; clashed = c.clashed.items } };
+    ghost view = { λ c. record {
+      schedule = c.built.now;
+      begun = c.begun;
+      over = c.over;
+      asked = c.asked;
+      yes = c.yes;
+      done = c.done;
+      from = c.from;
+      met = c.met.items;
+      clashed = c.clashed.items;
+    } };
 
-    ghost invariant = { λ c. IsRoomy (length c.built.now.systems) c.begun c.over × HasCounts c.built.now.systems c.over c.waits c.left × IsAskRoomy (length c.built.now.conditions) c.asked c.yes × AreRoomy (length c.built.now.systems) (length c.built.now.systems) c.met.items × AreRoomy (length c.built.now.systems) (length c.built.now.conditions) c.clashed.items };
+    ghost invariant = { λ c. IsRoomy (length c.built.now.systems) c.begun c.over
+        × HasCounts c.built.now.systems c.over c.waits c.left
+        × IsAskRoomy (length c.built.now.conditions) c.asked c.yes
+        × AreRoomy (length c.built.now.systems) (length c.built.now.systems) c.met.items
+        × AreRoomy (length c.built.now.systems) (length c.built.now.conditions) c.clashed.items };
 }
 
 impl<'a> Core<'a> {
@@ -124,7 +138,8 @@ impl<'a> Core<'a> {
 
     /// The same where the kind sets at the opening are those by which it was found last who meets whom.
     pub fn begin_same(&mut self, alloc: Global) -> Result<(), AllocError>
-        ensures stands { OnOk result ((sets : List ℕ) → AreMeetings self.old sets → Stands self.new (Some (sets ∷ [])) []) }
+        ensures stands { OnOk result ((sets : List ℕ) → AreMeetings self.old sets
+            → Stands self.new (Some (sets ∷ [])) []) }
         ensures schedule { self.new.schedule ≡ self.old.schedule }
         ensures unchanged { OnErr result (self.new ≡ self.old) }
     {
@@ -134,8 +149,10 @@ impl<'a> Core<'a> {
 
     /// What `step` would answer.
     pub fn may(&self, step: Step) -> Result<(), StepFault>
-        ensures accepts { (sets : Option (List (List ℕ))) (h : List Step) → Stands self.now sets h → IsOk result ↔ May (recording self.now.schedule sets) h step }
-        ensures fault { (sets : Option (List (List ℕ))) (h : List Step) → Stands self.now sets h → IfErr result (λ fault. IsFirstFault (recording self.now.schedule sets) h step fault) }
+        ensures accepts { (sets : Option (List (List ℕ))) (h : List Step) → Stands self.now sets h
+            → IsOk result ↔ May (recording self.now.schedule sets) h step }
+        ensures fault { (sets : Option (List (List ℕ))) (h : List Step) → Stands self.now sets h
+            → IfErr result (λ fault. IsFirstFault (recording self.now.schedule sets) h step fault) }
     {
         self.judge(step)
     }
@@ -143,9 +160,13 @@ impl<'a> Core<'a> {
     /// Takes a step: accepted exactly where it may come, else its first fault is returned and nothing changes. Of a run that records kind
     /// sets a sync point is taken by `sync_in`: after one that is taken here nothing is known of such a core.
     pub fn step(&mut self, step: Step) -> Result<(), StepFault>
-        ensures accepts { (sets : Option (List (List ℕ))) (h : List Step) → Stands self.old sets h → IsOk result ↔ May (recording self.old.schedule sets) h step }
-        ensures fault { (sets : Option (List (List ℕ))) (h : List Step) → Stands self.old sets h → IfErr result (λ fault. IsFirstFault (recording self.old.schedule sets) h step fault) }
-        ensures stands { OnOk result ((sets : Option (List (List ℕ))) (h : List Step) → Stands self.old sets h → IsPlainStep sets step → Stands self.new sets (step ∷ h)) }
+        ensures accepts { (sets : Option (List (List ℕ))) (h : List Step) → Stands self.old sets h
+            → IsOk result ↔ May (recording self.old.schedule sets) h step }
+        ensures fault { (sets : Option (List (List ℕ))) (h : List Step) → Stands self.old sets h
+            → IfErr result (λ fault. IsFirstFault (recording self.old.schedule sets) h step fault) }
+        ensures stands { OnOk result ((sets : Option (List (List ℕ))) (h : List Step)
+            → Stands self.old sets h → IsPlainStep sets step
+            → Stands self.new sets (step ∷ h)) }
         ensures unchanged { OnErr result (self.new ≡ self.old) }
         ensures schedule { self.new.schedule ≡ self.old.schedule }
     {
@@ -158,8 +179,11 @@ impl<'a> Core<'a> {
 
     /// Takes a step of which it is known that it may come, as `step` does, and judges nothing again.
     pub fn accept(&mut self, step: Step)
-        requires { (sets : Option (List (List ℕ))) × (h : List Step) × Stands self.old sets h × May (recording self.old.schedule sets) h step }
-        ensures stands { (sets : Option (List (List ℕ))) (h : List Step) → Stands self.old sets h → May (recording self.old.schedule sets) h step → IsPlainStep sets step → Stands self.new sets (step ∷ h) }
+        requires { (sets : Option (List (List ℕ))) × (h : List Step) × Stands self.old sets h
+            × May (recording self.old.schedule sets) h step }
+        ensures stands { (sets : Option (List (List ℕ))) (h : List Step) → Stands self.old sets h
+            → May (recording self.old.schedule sets) h step → IsPlainStep sets step
+            → Stands self.new sets (step ∷ h) }
         ensures schedule { self.new.schedule ≡ self.old.schedule }
     {
         self.take(step);
@@ -168,9 +192,14 @@ impl<'a> Core<'a> {
     /// Takes a sync point of a run that records kind sets: these after it. Accepted exactly where it may come, else its first fault is returned and
     /// nothing changes.
     pub fn sync_in(&mut self, sync: u32, sets: &KindSets) -> Result<(), StepFault>
-        ensures accepts { (lists : Option (List (List ℕ))) (h : List Step) → Stands self.old lists h → IsOk result ↔ May (recording self.old.schedule lists) h (Sync sync) }
-        ensures fault { (lists : Option (List (List ℕ))) (h : List Step) → Stands self.old lists h → IfErr result (λ fault. IsFirstFault (recording self.old.schedule lists) h (Sync sync) fault) }
-        ensures stands { OnOk result ((lists : List (List ℕ)) (h : List Step) → Stands self.old (Some lists) h → Stands self.new (Some (lists ++ sets.now ∷ [])) (Sync sync ∷ h)) }
+        ensures accepts { (lists : Option (List (List ℕ))) (h : List Step) → Stands self.old lists h
+            → IsOk result ↔ May (recording self.old.schedule lists) h (Sync sync) }
+        ensures fault { (lists : Option (List (List ℕ))) (h : List Step) → Stands self.old lists h
+            → IfErr result (λ fault. IsFirstFault (recording self.old.schedule lists) h (Sync sync)
+            fault) }
+        ensures stands { OnOk result ((lists : List (List ℕ)) (h : List Step)
+            → Stands self.old (Some lists) h
+            → Stands self.new (Some (lists ++ sets.now ∷ [])) (Sync sync ∷ h)) }
         ensures unchanged { OnErr result (self.new ≡ self.old) }
         ensures schedule { self.new.schedule ≡ self.old.schedule }
     {
@@ -184,9 +213,15 @@ impl<'a> Core<'a> {
 
     /// The same for a sync point after which the kind sets are those that were recorded last.
     pub fn sync_same(&mut self, sync: u32) -> Result<(), StepFault>
-        ensures accepts { (lists : Option (List (List ℕ))) (h : List Step) → Stands self.old lists h → IsOk result ↔ May (recording self.old.schedule lists) h (Sync sync) }
-        ensures fault { (lists : Option (List (List ℕ))) (h : List Step) → Stands self.old lists h → IfErr result (λ fault. IsFirstFault (recording self.old.schedule lists) h (Sync sync) fault) }
-        ensures stands { OnOk result ((lists : List (List ℕ)) (h : List Step) → Stands self.old (Some lists) h → Stands self.new (Some (lists ++ get_or lists (syncs_in h) [] ∷ [])) (Sync sync ∷ h)) }
+        ensures accepts { (lists : Option (List (List ℕ))) (h : List Step) → Stands self.old lists h
+            → IsOk result ↔ May (recording self.old.schedule lists) h (Sync sync) }
+        ensures fault { (lists : Option (List (List ℕ))) (h : List Step) → Stands self.old lists h
+            → IfErr result (λ fault. IsFirstFault (recording self.old.schedule lists) h (Sync sync)
+            fault) }
+        ensures stands { OnOk result ((lists : List (List ℕ)) (h : List Step)
+            → Stands self.old (Some lists) h
+            → Stands self.new (Some (lists ++ get_or lists (syncs_in h) [] ∷ [])) (Sync sync
+            ∷ h)) }
         ensures unchanged { OnErr result (self.new ≡ self.old) }
         ensures schedule { self.new.schedule ≡ self.old.schedule }
     {
@@ -200,10 +235,15 @@ impl<'a> Core<'a> {
     /// What can be done next: of the free systems in schedule order what the first offers that offers anything, else the sync
     /// point that is accepted. Finishes are not offered.
     pub fn ready(&self) -> Option<Ready>
-        ensures choice { (sets : Option (List (List ℕ))) (h : List Step) → Stands self.now sets h → IsReady (recording self.now.schedule sets) h result }
-        ensures may { (sets : Option (List (List ℕ))) (h : List Step) → Stands self.now sets h → IfSome result (λ offer. (answer : Bool) → May (recording self.now.schedule sets) h (step_of offer answer)) }
-        ensures nothing { (sets : Option (List (List ℕ))) (h : List Step) → Stands self.now sets h → IfNone result (OnlyFinish (recording self.now.schedule sets) h) }
-        ensures complete { (sets : Option (List (List ℕ))) (h : List Step) → Stands self.now sets h → NoneRuns h → IfNone result (IsComplete (recording self.now.schedule sets) h) }
+        ensures choice { (sets : Option (List (List ℕ))) (h : List Step) → Stands self.now sets h
+            → IsReady (recording self.now.schedule sets) h result }
+        ensures may { (sets : Option (List (List ℕ))) (h : List Step) → Stands self.now sets h
+            → IfSome result (λ offer. (answer : Bool)
+            → May (recording self.now.schedule sets) h (step_of offer answer)) }
+        ensures nothing { (sets : Option (List (List ℕ))) (h : List Step) → Stands self.now sets h
+            → IfNone result (OnlyFinish (recording self.now.schedule sets) h) }
+        ensures complete { (sets : Option (List (List ℕ))) (h : List Step) → Stands self.now sets h
+            → NoneRuns h → IfNone result (IsComplete (recording self.now.schedule sets) h) }
     {
         self.built_law();
         self.first_offer()
@@ -211,8 +251,10 @@ impl<'a> Core<'a> {
 
     /// Whether every system has ended and every sync point is done. Where not, some step may come.
     pub fn complete(&self) -> bool
-        ensures exact { (sets : Option (List (List ℕ))) (h : List Step) → Stands self.now sets h → IsTrue result ↔ IsComplete (recording self.now.schedule sets) h }
-        ensures goes_on { (sets : Option (List (List ℕ))) (h : List Step) → Stands self.now sets h → OnFalse result ((step : Step) × May (recording self.now.schedule sets) h step) }
+        ensures exact { (sets : Option (List (List ℕ))) (h : List Step) → Stands self.now sets h
+            → IsTrue result ↔ IsComplete (recording self.now.schedule sets) h }
+        ensures goes_on { (sets : Option (List (List ℕ))) (h : List Step) → Stands self.now sets h
+            → OnFalse result ((step : Step) × May (recording self.now.schedule sets) h step) }
     {
         self.built_law();
         self.syncs() <= self.done()
@@ -220,8 +262,10 @@ impl<'a> Core<'a> {
 
     /// Each history for which a core stands is lawful, and has no more steps than the schedule has room for.
     pub fn prove_law(&self)
-        ensures lawful { (sets : Option (List (List ℕ))) (h : List Step) → Stands self.now sets h → IsLawful (recording self.now.schedule sets) h }
-        ensures bound { (sets : Option (List (List ℕ))) (h : List Step) → Stands self.now sets h → length h ≤ room self.now.schedule }
+        ensures lawful { (sets : Option (List (List ℕ))) (h : List Step) → Stands self.now sets h
+            → IsLawful (recording self.now.schedule sets) h }
+        ensures bound { (sets : Option (List (List ℕ))) (h : List Step) → Stands self.now sets h
+            → length h ≤ room self.now.schedule }
     {}
 
     // What holds of the schedule.
@@ -360,7 +404,9 @@ impl<'a> Core<'a> {
     fn take(&mut self, step: Step)
         requires { IsKnown self.old.schedule step }
         ensures schedule { self.new.schedule ≡ self.old.schedule }
-        ensures stands { (sets : Option (List (List ℕ))) (h : List Step) → Stands self.old sets h → May (recording self.old.schedule sets) h step → IsPlainStep sets step → Stands self.new sets (step ∷ h) }
+        ensures stands { (sets : Option (List (List ℕ))) (h : List Step) → Stands self.old sets h
+            → May (recording self.old.schedule sets) h step → IsPlainStep sets step
+            → Stands self.new sets (step ∷ h) }
     {
         match step {
             Step::Cond(condition, answer) => self.note(condition, answer),
@@ -378,8 +424,10 @@ impl<'a> Core<'a> {
     fn note(&mut self, condition: u32, answer: bool)
         requires { condition < length self.old.schedule.conditions }
         ensures rest { self.new ≡ record self.old { asked = self.new.asked; yes = self.new.yes } }
-        ensures asked { (c : ℕ) → contains self.new.asked c ≡ ((condition == c) || contains self.old.asked c) }
-        ensures yes { (c : ℕ) → contains self.new.yes c ≡ (((condition == c) && answer) || contains self.old.yes c) }
+        ensures asked { (c : ℕ)
+            → contains self.new.asked c ≡ ((condition == c) || contains self.old.asked c) }
+        ensures yes { (c : ℕ)
+            → contains self.new.yes c ≡ (((condition == c) && answer) || contains self.old.yes c) }
     {
         self.asked.insert(condition);
         if answer {
@@ -391,7 +439,8 @@ impl<'a> Core<'a> {
     fn begin(&mut self, system: u32)
         requires { system < length self.old.schedule.systems }
         ensures rest { self.new ≡ record self.old { begun = self.new.begun; from = self.new.from } }
-        ensures begun { (n : ℕ) → contains self.new.begun n ≡ ((system == n) || contains self.old.begun n) }
+        ensures begun { (n : ℕ)
+            → contains self.new.begun n ≡ ((system == n) || contains self.old.begun n) }
         ensures passed { IsPassed self.old → IsPassed self.new }
     {
         self.begun.insert(system);
@@ -402,7 +451,8 @@ impl<'a> Core<'a> {
     fn end(&mut self, system: u32)
         requires { system < length self.old.schedule.systems }
         ensures rest { self.new ≡ record self.old { over = self.new.over } }
-        ensures over { (n : ℕ) → contains self.new.over n ≡ ((system == n) || contains self.old.over n) }
+        ensures over { (n : ℕ)
+            → contains self.new.over n ≡ ((system == n) || contains self.old.over n) }
     {
         if self.over.contains(system) {
             return;
@@ -425,7 +475,12 @@ impl<'a> Core<'a> {
     // Forgets what it has accepted. The rows stay.
     fn forget(&mut self, alloc: Global) -> Result<(), AllocError>
         ensures cleared { OnOk result (IsCleared self.new) }
-        ensures rest { OnOk result (self.new ≡ record self.new { schedule = self.old.schedule; met = self.old.met; clashed = self.old.clashed }) }
+        ensures rest { OnOk result (self.new
+            ≡ record self.new {
+              schedule = self.old.schedule;
+              met = self.old.met;
+              clashed = self.old.clashed;
+            }) }
         ensures schedule { self.new.schedule ≡ self.old.schedule }
         ensures unchanged { OnErr result (self.new ≡ self.old) }
     {
@@ -447,7 +502,8 @@ impl<'a> Core<'a> {
 
     // Makes the rows anew: those that meet each system and each condition where these are the kind sets that are there.
     fn renew(&mut self, sets: &KindSets)
-        ensures rest { self.new ≡ record self.old { met = self.new.met; clashed = self.new.clashed } }
+        ensures rest { self.new
+            ≡ record self.old { met = self.new.met; clashed = self.new.clashed } }
         ensures met { (n m : ℕ) → MeetsAmong self.new (Some sets.now) n m }
         ensures clashed { (c m : ℕ) → ClashesAmong self.new (Some sets.now) c m }
     {

@@ -14,7 +14,8 @@ use model::{Step, StepFault};
 impl<'a> Core<'a> {
     // Whether the step may come.
     pub(crate) fn judge(&self, step: Step) -> Result<(), StepFault>
-        ensures judged { (sets : Option (List (List ℕ))) (h : List Step) → Stands self.now sets h → Judges (recording self.now.schedule sets) h step result }
+        ensures judged { (sets : Option (List (List ℕ))) (h : List Step) → Stands self.now sets h
+            → Judges (recording self.now.schedule sets) h step result }
         ensures known { OnOk result (IsKnown self.now.schedule step) }
     {
         match step {
@@ -28,7 +29,8 @@ impl<'a> Core<'a> {
 
     // Whether the condition may be asked.
     fn may_ask(&self, condition: u32, answer: bool) -> Result<(), StepFault>
-        ensures judged { (sets : Option (List (List ℕ))) (h : List Step) → Stands self.now sets h → Judges (recording self.now.schedule sets) h (Cond condition answer) result }
+        ensures judged { (sets : Option (List (List ℕ))) (h : List Step) → Stands self.now sets h
+            → Judges (recording self.now.schedule sets) h (Cond condition answer) result }
         ensures known { OnOk result (condition < length self.now.schedule.conditions) }
     {
         self.built_law();
@@ -49,7 +51,8 @@ impl<'a> Core<'a> {
 
     // Whether the system may start.
     pub(crate) fn may_start(&self, system: u32) -> Result<(), StepFault>
-        ensures judged { (sets : Option (List (List ℕ))) (h : List Step) → Stands self.now sets h → Judges (recording self.now.schedule sets) h (Start system) result }
+        ensures judged { (sets : Option (List (List ℕ))) (h : List Step) → Stands self.now sets h
+            → Judges (recording self.now.schedule sets) h (Start system) result }
         ensures known { OnOk result (system < length self.now.schedule.systems) }
     {
         if self.count() <= system {
@@ -75,7 +78,8 @@ impl<'a> Core<'a> {
 
     // Whether the system may be skipped.
     fn may_skip(&self, system: u32) -> Result<(), StepFault>
-        ensures judged { (sets : Option (List (List ℕ))) (h : List Step) → Stands self.now sets h → Judges (recording self.now.schedule sets) h (Skip system) result }
+        ensures judged { (sets : Option (List (List ℕ))) (h : List Step) → Stands self.now sets h
+            → Judges (recording self.now.schedule sets) h (Skip system) result }
         ensures known { OnOk result (system < length self.now.schedule.systems) }
     {
         if self.count() <= system {
@@ -98,7 +102,8 @@ impl<'a> Core<'a> {
 
     // Whether the system may finish.
     fn may_finish(&self, system: u32) -> Result<(), StepFault>
-        ensures judged { (sets : Option (List (List ℕ))) (h : List Step) → Stands self.now sets h → Judges (recording self.now.schedule sets) h (Finish system) result }
+        ensures judged { (sets : Option (List (List ℕ))) (h : List Step) → Stands self.now sets h
+            → Judges (recording self.now.schedule sets) h (Finish system) result }
         ensures known { OnOk result (system < length self.now.schedule.systems) }
     {
         if self.count() <= system {
@@ -112,7 +117,8 @@ impl<'a> Core<'a> {
 
     // Whether the sync point may be done.
     pub(crate) fn may_sync(&self, sync: u32) -> Result<(), StepFault>
-        ensures judged { (sets : Option (List (List ℕ))) (h : List Step) → Stands self.now sets h → Judges (recording self.now.schedule sets) h (Sync sync) result }
+        ensures judged { (sets : Option (List (List ℕ))) (h : List Step) → Stands self.now sets h
+            → Judges (recording self.now.schedule sets) h (Sync sync) result }
         ensures known { OnOk result (sync < self.now.schedule.syncs) }
     {
         if self.syncs() <= sync {
@@ -194,7 +200,8 @@ impl<'a> Core<'a> {
 
     // Whether the condition was asked and did not answer yes.
     fn is_refusing(&self, condition: u32) -> bool
-        ensures { result ≡ (contains self.now.asked condition && not (contains self.now.yes condition)) }
+        ensures { result
+            ≡ (contains self.now.asked condition && not (contains self.now.yes condition)) }
     {
         self.was_asked(condition) && !self.said_yes(condition)
     }

@@ -18,7 +18,8 @@ use std::alloc::{AllocError, Global};
 
 /// For each system those that conflict with it.
 pub(crate) fn rivals_of(alloc: Global, built: &Built) -> Result<Vec<NumberSet>, AllocError>
-    ensures { IfOk result (λ rows. AreRows (length built.now.systems) (length built.now.systems) (IsRival built.now.systems) rows.items) }
+    ensures { IfOk result (λ rows. AreRows (length built.now.systems) (length built.now.systems)
+        (IsRival built.now.systems) rows.items) }
 {
     let mut rows = Vec::new(alloc);
     for number in 0..built.count() {
@@ -29,7 +30,8 @@ pub(crate) fn rivals_of(alloc: Global, built: &Built) -> Result<Vec<NumberSet>, 
 
 /// For each condition those that conflict with what it asks about.
 pub(crate) fn clashes_of(alloc: Global, built: &Built) -> Result<Vec<NumberSet>, AllocError>
-    ensures { IfOk result (λ rows. AreRows (length built.now.systems) (length built.now.conditions) (IsClash built.now.systems built.now.conditions) rows.items) }
+    ensures { IfOk result (λ rows. AreRows (length built.now.systems) (length built.now.conditions)
+        (IsClash built.now.systems built.now.conditions) rows.items) }
 {
     let mut rows = Vec::new(alloc);
     for number in 0..built.condition_count() {
@@ -41,7 +43,8 @@ pub(crate) fn clashes_of(alloc: Global, built: &Built) -> Result<Vec<NumberSet>,
 /// Makes the rows of systems anew: those that meet each of them where these are the kind sets that are there.
 pub(crate) fn renew_met(rows: &mut [NumberSet], built: &Built, sets: &[u32])
     requires { AreRoomy (length built.now.systems) (length built.now.systems) rows.old }
-    ensures { AreRows (length built.now.systems) (length built.now.systems) (IsMeeting built.now sets.now) rows.new }
+    ensures { AreRows (length built.now.systems) (length built.now.systems)
+        (IsMeeting built.now sets.now) rows.new }
 {
     for number in 0..built.count() {
         renew_row(
@@ -57,7 +60,8 @@ pub(crate) fn renew_met(rows: &mut [NumberSet], built: &Built, sets: &[u32])
 /// Makes the rows of conditions anew: those that meet what each of them asks about.
 pub(crate) fn renew_clashed(rows: &mut [NumberSet], built: &Built, sets: &[u32])
     requires { AreRoomy (length built.now.systems) (length built.now.conditions) rows.old }
-    ensures { AreRows (length built.now.systems) (length built.now.conditions) (IsClashing built.now sets.now) rows.new }
+    ensures { AreRows (length built.now.systems) (length built.now.conditions)
+        (IsClashing built.now sets.now) rows.new }
 {
     for number in 0..built.condition_count() {
         renew_row(
@@ -73,8 +77,13 @@ pub(crate) fn renew_clashed(rows: &mut [NumberSet], built: &Built, sets: &[u32])
 // Makes a row anew: those of the rivals of an access that meet it. Where there are none no system is looked at.
 fn renew_row(row: &mut NumberSet, built: &Built, rivals: &NumberSet, access: &Params, sets: &[u32])
     requires room { length row.old ≡ length built.now.systems / 64 + 1 }
-    requires rivals { (m : ℕ) → (contains rivals.now m ≡ true) ↔ ((m < length built.now.systems) × Conflict (params_of built.now m) access.now) }
-    ensures { IsRow (length built.now.systems) (λ m. (m < length built.now.systems) × Meet (Some sets.now) (params_of built.now m) access.now) row.new }
+    requires rivals { (m : ℕ)
+        → (contains rivals.now m ≡ true)
+        ↔ ((m < length built.now.systems) × Conflict (params_of built.now m) access.now) }
+    ensures { IsRow (length built.now.systems)
+        (λ m. (m < length built.now.systems)
+        × Meet (Some sets.now) (params_of built.now m) access.now)
+        row.new }
 {
     if rivals.is_empty() {
         row.clear();
@@ -92,8 +101,13 @@ fn note_rivals(
     sets: &[u32],
 )
     requires room { length row.old ≡ length built.now.systems / 64 + 1 }
-    requires rivals { (m : ℕ) → (contains rivals.now m ≡ true) ↔ ((m < length built.now.systems) × Conflict (params_of built.now m) access.now) }
-    ensures { IsRow (length built.now.systems) (λ m. (m < length built.now.systems) × Meet (Some sets.now) (params_of built.now m) access.now) row.new }
+    requires rivals { (m : ℕ)
+        → (contains rivals.now m ≡ true)
+        ↔ ((m < length built.now.systems) × Conflict (params_of built.now m) access.now) }
+    ensures { IsRow (length built.now.systems)
+        (λ m. (m < length built.now.systems)
+        × Meet (Some sets.now) (params_of built.now m) access.now)
+        row.new }
 {
     row.clear();
     for system in 0..built.count() {
@@ -113,7 +127,11 @@ fn note_meeting(
     requires known { system < length built.now.systems }
     requires room { length row.old ≡ length built.now.systems / 64 + 1 }
     ensures room { length row.new ≡ length row.old }
-    ensures members { (m : ℕ) → (contains row.new m ≡ true) ↔ ((contains row.old m ≡ true) ⊎ ((system ≡ m) × (contains rivals.now m ≡ true) × Meet (Some sets.now) (params_of built.now m) access.now)) }
+    ensures members { (m : ℕ)
+        → (contains row.new m ≡ true)
+        ↔ ((contains row.old m ≡ true)
+        ⊎ ((system ≡ m) × (contains rivals.now m ≡ true)
+        × Meet (Some sets.now) (params_of built.now m) access.now)) }
 {
     if !rivals.contains(system) {
         return;

@@ -14,7 +14,8 @@ impl<'a> Core<'a> {
     // What the first system in schedule order offers that offers anything, else the sync point that is accepted. The systems
     // that need no more be looked at are passed over.
     pub(crate) fn first_offer(&self) -> Option<Ready>
-        ensures { (sets : Option (List (List ℕ))) (h : List Step) → Stands self.now sets h → IsReady (recording self.now.schedule sets) h result }
+        ensures { (sets : Option (List (List ℕ))) (h : List Step) → Stands self.now sets h
+            → IsReady (recording self.now.schedule sets) h result }
     {
         let order = self.order();
         for place in self.from()..order.len() {
@@ -27,7 +28,8 @@ impl<'a> Core<'a> {
 
     // What the system offers: to ask its least condition that can be asked, or with all answered to skip or to start it.
     fn offer(&self, system: u32) -> Option<Ready>
-        ensures { (sets : Option (List (List ℕ))) (h : List Step) → Stands self.now sets h → TellsOffer (recording self.now.schedule sets) h system result }
+        ensures { (sets : Option (List (List ℕ))) (h : List Step) → Stands self.now sets h
+            → TellsOffer (recording self.now.schedule sets) h system result }
     {
         if self.count() <= system {
             return None;
@@ -66,7 +68,9 @@ impl<'a> Core<'a> {
 
     // Whether the condition was not asked, and can be.
     fn is_askable(&self, condition: u32) -> bool
-        ensures { IsTrue result ↔ (IsAskableNow self.now condition × (condition < length self.now.schedule.conditions)) }
+        ensures { IsTrue result
+            ↔ (IsAskableNow self.now condition
+            × (condition < length self.now.schedule.conditions)) }
     {
         if self.condition_count() <= condition {
             return false;
@@ -79,7 +83,8 @@ impl<'a> Core<'a> {
 
     // The sync point that is accepted.
     fn ready_sync(&self) -> Option<Ready>
-        ensures { (sets : Option (List (List ℕ))) (h : List Step) → Stands self.now sets h → IsReadySync (recording self.now.schedule sets) h result }
+        ensures { (sets : Option (List (List ℕ))) (h : List Step) → Stands self.now sets h
+            → IsReadySync (recording self.now.schedule sets) h result }
     {
         match self.may_sync(self.done()) {
             Ok(()) => Some(Ready::Sync(self.done())),

@@ -31,9 +31,13 @@ impl Model for Trace {
 
     ghost Value = { Recorded };
 
-    ghost view = { λ t. record { steps = reverse t.steps.items; sets = option_map (λ lists. lists.items) t.sets } };
+    ghost view = { λ t. record {
+      steps = reverse t.steps.items;
+      sets = option_map (λ lists. lists.items) t.sets;
+    } };
 
-    ghost invariant = { λ t. AreListed (option_map (λ lists. lists.items) t.sets) (reverse t.steps.items) };
+    ghost invariant = { λ t. AreListed (option_map (λ lists. lists.items) t.sets) (reverse
+        t.steps.items) };
 }
 
 impl Trace {

@@ -59,8 +59,10 @@ pub fn parting_of(
     requires beside { HasMemories built.now second }
     requires fitting { AreScriptsOf built.now bodies.old }
     requires few { length one.now < 2 ^ 32 }
-    ensures parting { IfOk result (IsParting built.now (meanings_of_scripts built.now bodies.old) 0 first second one.now other.now) }
-    ensures refused { IfErr result (IsUnparted built.now (meanings_of_scripts built.now bodies.old) first second one.now other.now) }
+    ensures parting { IfOk result (IsParting built.now (meanings_of_scripts built.now bodies.old) 0
+        first second one.now other.now) }
+    ensures refused { IfErr result (IsUnparted built.now (meanings_of_scripts built.now bodies.old)
+        first second one.now other.now) }
 {
     let mut states = (first, second);
     let mut number = 0u32;
@@ -111,12 +113,19 @@ fn taken_both(
 ) -> Result<(State, State), Fault>
     requires suits { Suits script_suits built.now (map Some bodies.old) states.0 }
     requires beside { HasMemories built.now states.1 }
-    ensures refused { IfErr result (λ fault. IsRefusedRun built.now (meanings_of_scripts built.now bodies.old) states.0 trace.now number fault ⊎ IsRefusedRun built.now (meanings_of_scripts built.now bodies.old) states.1 counterpart.now number fault) }
-    ensures one { IfOk result (λ left. IsReplayed (recording built.now trace.now.sets) (meanings_of_scripts built.now bodies.old) states.0 trace.now.steps left.0) }
-    ensures other { IfOk result (λ left. IsReplayed (recording built.now counterpart.now.sets) (meanings_of_scripts built.now bodies.old) states.1 counterpart.now.steps left.1) }
-    ensures suits { IfOk result (λ left. Suits script_suits built.now (map Some bodies.new) left.0) }
+    ensures refused { IfErr result (λ fault. IsRefusedRun built.now
+        (meanings_of_scripts built.now bodies.old) states.0 trace.now number fault
+        ⊎ IsRefusedRun built.now (meanings_of_scripts built.now bodies.old) states.1
+        counterpart.now number fault) }
+    ensures one { IfOk result (λ left. IsReplayed (recording built.now trace.now.sets)
+        (meanings_of_scripts built.now bodies.old) states.0 trace.now.steps left.0) }
+    ensures other { IfOk result (λ left. IsReplayed (recording built.now counterpart.now.sets)
+        (meanings_of_scripts built.now bodies.old) states.1 counterpart.now.steps left.1) }
+    ensures suits { IfOk result (λ left. Suits script_suits built.now (map Some bodies.new)
+        left.0) }
     ensures beside { IfOk result (λ left. HasMemories built.now left.1) }
-    ensures meanings { meanings_of_scripts built.now bodies.new ≡ meanings_of_scripts built.now bodies.old }
+    ensures meanings { meanings_of_scripts built.now bodies.new
+        ≡ meanings_of_scripts built.now bodies.old }
 {
     let (state, beside) = states;
     let left = replay_run(alloc, built, bodies, state, trace, number as usize)?;

@@ -31,8 +31,12 @@ pub struct Loaded<'a> {
 
 /// What a document declares.
 pub fn load<'a>(alloc: Global, document: &'a Table) -> Result<Loaded<'a>, Fault>
-    ensures loaded { IfOk result (λ found. (bytes : Option (List ℕ)) → IfSome bytes (λ text. parse_document text ≡ Some (table_view document.now)) → IsLoaded bytes found) }
-    ensures refused { IfErr result (λ fault. (bytes : Option (List ℕ)) → IfSome bytes (λ text. parse_document text ≡ Some (table_view document.now)) → IsUnloaded bytes fault) }
+    ensures loaded { IfOk result (λ found. (bytes : Option (List ℕ))
+        → IfSome bytes (λ text. parse_document text ≡ Some (table_view document.now))
+        → IsLoaded bytes found) }
+    ensures refused { IfErr result (λ fault. (bytes : Option (List ℕ))
+        → IfSome bytes (λ text. parse_document text ≡ Some (table_view document.now))
+        → IsUnloaded bytes fault) }
 {
     let tables = ProgramFile::read(alloc, document)?;
     let sets = sets_of(alloc, tables.sets.as_slice(), tables.systems.as_slice())?;
@@ -47,7 +51,8 @@ pub fn opening(
     entities: &[Vec<Value>],
     resources: &[i64; 8],
 ) -> Result<State, Fault>
-    ensures first { IfOk result (λ state. state ≡ loaded_state built.now (map entity_given entities.now) resources.now) }
+    ensures first { IfOk result (λ state. state
+        ≡ loaded_state built.now (map entity_given entities.now) resources.now) }
     ensures refused { IfErr result (IsUngiven (length entities.now)) }
 {
     let world = world_of(alloc, entities, resources)?;

@@ -33,8 +33,11 @@ pub fn story_of(
     requires memories { HasMemories built.now first }
     requires fitting { AreScriptsOf built.now bodies.old }
     requires few { length traces.now < 2 ^ 32 }
-    ensures story { IfOk result (λ text. IsStory built.now (meanings_of_scripts built.now bodies.old) asked 0 first traces.now (count_text (length traces.now)) (string_bytes text)) }
-    ensures refused { IfErr result (IsUntold built.now (meanings_of_scripts built.now bodies.old) first traces.now) }
+    ensures story { IfOk result (λ text. IsStory built.now
+        (meanings_of_scripts built.now bodies.old) asked 0 first traces.now
+        (count_text (length traces.now)) (string_bytes text)) }
+    ensures refused { IfErr result (IsUntold built.now (meanings_of_scripts built.now bodies.old)
+        first traces.now) }
 {
     let mut text = String::new(alloc);
     let count = traces.len();
@@ -81,11 +84,17 @@ fn taken(
     part: Part,
 ) -> Result<(State, String), Fault>
     requires { Suits script_suits built.now (map Some bodies.old) state }
-    ensures replayed { IfOk result (λ left. IsReplayed (recording built.now trace.now.sets) (meanings_of_scripts built.now bodies.old) state trace.now.steps left.0) }
-    ensures refused { IfErr result (IsRefusedRun built.now (meanings_of_scripts built.now bodies.old) state trace.now (part.before + 1)) }
-    ensures told { IfOk result (λ left. string_bytes left.1 ≡ told_text part.is_told built.now (meanings_of_scripts built.now bodies.old) state part.before trace.now.steps) }
-    ensures suits { IfOk result (λ left. Suits script_suits built.now (map Some bodies.new) left.0) }
-    ensures meanings { meanings_of_scripts built.now bodies.new ≡ meanings_of_scripts built.now bodies.old }
+    ensures replayed { IfOk result (λ left. IsReplayed (recording built.now trace.now.sets)
+        (meanings_of_scripts built.now bodies.old) state trace.now.steps left.0) }
+    ensures refused { IfErr result (IsRefusedRun built.now
+        (meanings_of_scripts built.now bodies.old) state trace.now (part.before + 1)) }
+    ensures told { IfOk result (λ left. string_bytes left.1
+        ≡ told_text part.is_told built.now (meanings_of_scripts built.now bodies.old) state
+        part.before trace.now.steps) }
+    ensures suits { IfOk result (λ left. Suits script_suits built.now (map Some bodies.new)
+        left.0) }
+    ensures meanings { meanings_of_scripts built.now bodies.new
+        ≡ meanings_of_scripts built.now bodies.old }
 {
     if part.is_told {
         return told_run(alloc, built, bodies, state, trace, part.before);
@@ -105,11 +114,17 @@ fn told_run(
     before: u32,
 ) -> Result<(State, String), Fault>
     requires { Suits script_suits built.now (map Some bodies.old) state }
-    ensures replayed { IfOk result (λ left. IsReplayed (recording built.now trace.now.sets) (meanings_of_scripts built.now bodies.old) state trace.now.steps left.0) }
-    ensures refused { IfErr result (IsRefusedRun built.now (meanings_of_scripts built.now bodies.old) state trace.now (before + 1)) }
-    ensures told { IfOk result (λ left. string_bytes left.1 ≡ worlds_text built.now (meanings_of_scripts built.now bodies.old) state before trace.now.steps) }
-    ensures suits { IfOk result (λ left. Suits script_suits built.now (map Some bodies.new) left.0) }
-    ensures meanings { meanings_of_scripts built.now bodies.new ≡ meanings_of_scripts built.now bodies.old }
+    ensures replayed { IfOk result (λ left. IsReplayed (recording built.now trace.now.sets)
+        (meanings_of_scripts built.now bodies.old) state trace.now.steps left.0) }
+    ensures refused { IfErr result (IsRefusedRun built.now
+        (meanings_of_scripts built.now bodies.old) state trace.now (before + 1)) }
+    ensures told { IfOk result (λ left. string_bytes left.1
+        ≡ worlds_text built.now (meanings_of_scripts built.now bodies.old) state before
+        trace.now.steps) }
+    ensures suits { IfOk result (λ left. Suits script_suits built.now (map Some bodies.new)
+        left.0) }
+    ensures meanings { meanings_of_scripts built.now bodies.new
+        ≡ meanings_of_scripts built.now bodies.old }
 {
     let start = state.copy(alloc)?;
     let left = replay_run(alloc, built, bodies, state, trace, before as usize + 1)?;
@@ -128,10 +143,13 @@ fn told_of(
 ) -> Result<String, Fault>
     requires suits { Suits script_suits built.now (map Some bodies.old) start }
     requires lawful { IsLawful (recording built.now trace.now.sets) trace.now.steps }
-    ensures told { IfOk result (λ text. string_bytes text ≡ worlds_text built.now (meanings_of_scripts built.now bodies.old) start before trace.now.steps) }
+    ensures told { IfOk result (λ text. string_bytes text
+        ≡ worlds_text built.now (meanings_of_scripts built.now bodies.old) start before
+        trace.now.steps) }
     ensures memory { IfErr result (λ fault. fault ≡ Fault.Memory) }
     ensures fit { OnOk result (AreFit script_suits built.now (map Some bodies.new)) }
-    ensures meanings { meanings_of_scripts built.now bodies.new ≡ meanings_of_scripts built.now bodies.old }
+    ensures meanings { meanings_of_scripts built.now bodies.new
+        ≡ meanings_of_scripts built.now bodies.old }
 {
     match worlds_of(alloc, built, bodies, start, trace, before) {
         Ok(text) => Ok(text),

@@ -17,7 +17,8 @@ use trace_checker::write::push_run;
 
 /// Adds a pair: its names, and on what the two conflict.
 pub fn push_pair(text: &mut String, names: &[&str], pair: Pair) -> Result<(), AllocError>
-    ensures { OnOk result (string_bytes text.new ≡ string_bytes text.old ++ pair_text (map (λ name. name.now) names.now) pair) }
+    ensures { OnOk result (string_bytes text.new
+        ≡ string_bytes text.old ++ pair_text (map (λ name. name.now) names.now) pair) }
 {
     text.push_str("== ")?;
     report::push_pair(text, names, pair)
@@ -31,7 +32,9 @@ pub fn push_witness(
     pair: Pair,
     witness: &Witness,
 ) -> Result<(), AllocError>
-    ensures { OnOk result ((more : List ℕ) × IsWitnessText (map (λ name. name.now) names.now) pair witness.now more × (string_bytes text.new ≡ string_bytes text.old ++ more)) }
+    ensures { OnOk result ((more : List ℕ)
+        × IsWitnessText (map (λ name. name.now) names.now) pair witness.now more
+        × (string_bytes text.new ≡ string_bytes text.old ++ more)) }
 {
     push_orders(text, names, pair, witness)?;
     push_difference(
@@ -50,7 +53,9 @@ fn push_orders(
     pair: Pair,
     witness: &Witness,
 ) -> Result<(), AllocError>
-    ensures { OnOk result (string_bytes text.new ≡ string_bytes text.old ++ orders_text (map (λ name. name.now) names.now) pair witness.now) }
+    ensures { OnOk result (string_bytes text.new
+        ≡ string_bytes text.old
+        ++ orders_text (map (λ name. name.now) names.now) pair witness.now) }
 {
     text.push_str("-- ")?;
     push_racer(text, names, pair.first)?;
@@ -78,7 +83,8 @@ fn push_difference(
     one: &str,
     other: &str,
 ) -> Result<(), AllocError>
-    ensures { OnOk result ((more : List ℕ) × IsDifference one.now other.now more × (string_bytes text.new ≡ string_bytes text.old ++ more)) }
+    ensures { OnOk result ((more : List ℕ) × IsDifference one.now other.now more
+        × (string_bytes text.new ≡ string_bytes text.old ++ more)) }
 {
     if one == other {
         text.push_str("-- equal\n")?;
@@ -104,7 +110,8 @@ fn lines_of<'a>(alloc: Global, text: &'a str) -> Result<Vec<&'a str>, AllocError
 
 // The first place at which two lists of lines differ, or where both end.
 fn first_apart(lines: &[&str], beside: &[&str]) -> usize
-    ensures { IsFirstApart (map (λ line. line.now) lines.now) (map (λ line. line.now) beside.now) result }
+    ensures { IsFirstApart (map (λ line. line.now) lines.now) (map (λ line. line.now) beside.now)
+        result }
 {
     for place in 0..lines.len() {
         if !are_same(line_of(lines, place), line_of(beside, place)) {
@@ -116,15 +123,18 @@ fn first_apart(lines: &[&str], beside: &[&str]) -> usize
 
 // The line at a place, where there is one.
 fn line_of<'a>(lines: &[&'a str], place: usize) -> Option<&'a str>
-    ensures { option_map (λ line. line.now) result ≡ slice_get (map (λ line. line.now) lines.now) place }
+    ensures { option_map (λ line. line.now) result
+        ≡ slice_get (map (λ line. line.now) lines.now) place }
 {
     lines.get(place).copied()
 }
 
 // Whether two lines are the same, where there are any.
 fn are_same(line: Option<&str>, other: Option<&str>) -> bool
-    ensures same { result ≡ true → option_map (λ line. line.now) line.entry ≡ option_map (λ line. line.now) other.entry }
-    ensures apart { result ≡ false → option_map (λ line. line.now) line.entry ≢ option_map (λ line. line.now) other.entry }
+    ensures same { result ≡ true
+        → option_map (λ line. line.now) line.entry ≡ option_map (λ line. line.now) other.entry }
+    ensures apart { result ≡ false
+        → option_map (λ line. line.now) line.entry ≢ option_map (λ line. line.now) other.entry }
 {
     match (line, other) {
         (Some(one), Some(two)) => one == two,
@@ -141,7 +151,10 @@ fn push_apart(
     place: usize,
 ) -> Result<(), AllocError>
     requires { place ≤ length lines.now }
-    ensures { OnOk result (string_bytes text.new ≡ string_bytes text.old ++ apart_text (map (λ line. line.now) lines.now) (map (λ line. line.now) beside.now) place) }
+    ensures { OnOk result (string_bytes text.new
+        ≡ string_bytes text.old
+        ++ apart_text (map (λ line. line.now) lines.now) (map (λ line. line.now) beside.now)
+        place) }
 {
     let number = place + 1;
     writeln!(text, "-- line {number} differs")?;
@@ -151,7 +164,8 @@ fn push_apart(
 
 // Adds the line at a place, an empty one where there is none.
 fn push_line_at(text: &mut String, lines: &[&str], place: usize) -> Result<(), AllocError>
-    ensures { OnOk result (string_bytes text.new ≡ string_bytes text.old ++ line_at (map (λ line. line.now) lines.now) place) }
+    ensures { OnOk result (string_bytes text.new
+        ≡ string_bytes text.old ++ line_at (map (λ line. line.now) lines.now) place) }
 {
     if let Some(line) = lines.get(place) {
         text.push_str(line)?;
@@ -167,7 +181,8 @@ pub fn text_of_parting(
     place: Option<Place>,
     runs: (usize, usize),
 ) -> Result<String, AllocError>
-    ensures { IfOk result (λ text. IsPartingText parting.now place runs.0 runs.1 (string_bytes text)) }
+    ensures { IfOk result (λ text. IsPartingText parting.now place runs.0 runs.1 (string_bytes
+        text)) }
 {
     let mut text = String::new(alloc);
     push_agreement(&mut text, parting, runs)?;
@@ -182,7 +197,8 @@ fn push_agreement(
     parting: &Parting,
     runs: (usize, usize),
 ) -> Result<(), AllocError>
-    ensures { OnOk result (string_bytes text.new ≡ string_bytes text.old ++ agreement_line parting.now runs.0 runs.1) }
+    ensures { OnOk result (string_bytes text.new
+        ≡ string_bytes text.old ++ agreement_line parting.now runs.0 runs.1) }
 {
     match parting {
         Parting::None(count) => writeln!(text, "worlds agree after each of {count} runs"),
@@ -232,7 +248,8 @@ fn push_step(text: &mut String, step: Option<Step>) -> Result<(), AllocError>
 
 // Adds the lines in which the worlds differ, where they do.
 fn push_lines_of(alloc: Global, text: &mut String, parting: &Parting) -> Result<(), AllocError>
-    ensures { OnOk result ((more : List ℕ) × IsApartBy parting.now more × (string_bytes text.new ≡ string_bytes text.old ++ more)) }
+    ensures { OnOk result ((more : List ℕ) × IsApartBy parting.now more
+        × (string_bytes text.new ≡ string_bytes text.old ++ more)) }
 {
     if let Parting::After(_, one, other) = parting {
         push_lines(alloc, text, one.as_str(), other.as_str())?;
@@ -242,7 +259,8 @@ fn push_lines_of(alloc: Global, text: &mut String, parting: &Parting) -> Result<
 
 // Adds the lines in which two texts differ: `-` before those of the first, `+` before those of the second. Lines of entities go by their indices.
 fn push_lines(alloc: Global, text: &mut String, one: &str, other: &str) -> Result<(), AllocError>
-    ensures { OnOk result ((more : List ℕ) × IsApart one.now other.now more × (string_bytes text.new ≡ string_bytes text.old ++ more)) }
+    ensures { OnOk result ((more : List ℕ) × IsApart one.now other.now more
+        × (string_bytes text.new ≡ string_bytes text.old ++ more)) }
 {
     let lines = lines_of(alloc, one)?;
     let beside = lines_of(alloc, other)?;
@@ -252,7 +270,9 @@ fn push_lines(alloc: Global, text: &mut String, one: &str, other: &str) -> Resul
 
 // Adds what the rows of two lists of lines tell.
 fn push_rows(text: &mut String, lines: &[&str], beside: &[&str]) -> Result<(), AllocError>
-    ensures { OnOk result ((more : List ℕ) × AreRows (map (λ line. line.now) lines.now) (map (λ line. line.now) beside.now) more × (string_bytes text.new ≡ string_bytes text.old ++ more)) }
+    ensures { OnOk result ((more : List ℕ)
+        × AreRows (map (λ line. line.now) lines.now) (map (λ line. line.now) beside.now) more
+        × (string_bytes text.new ≡ string_bytes text.old ++ more)) }
 {
     let mut at = 0;
     let mut beside_at = 0;
@@ -267,7 +287,13 @@ fn push_rows(text: &mut String, lines: &[&str], beside: &[&str]) -> Result<(), A
 
 // Adds what a row says.
 fn push_row(text: &mut String, one: Option<&str>, two: Option<&str>) -> Result<(), AllocError>
-    ensures { OnOk result (string_bytes text.new ≡ string_bytes text.old ++ row_text (option_map (λ line. line.now) one.entry, option_map (λ line. line.now) two.entry)) }
+    ensures { OnOk result (string_bytes text.new
+        ≡ string_bytes text.old
+        ++ row_text (
+          option_map (λ line. line.now) one.entry,
+          option_map (λ line. line.now)
+              two.entry,
+        )) }
 {
     if is_same_line(one, two) {
         return Ok(());
@@ -278,7 +304,9 @@ fn push_row(text: &mut String, one: Option<&str>, two: Option<&str>) -> Result<(
 
 // Whether both lines are there, and the same.
 fn is_same_line(line: Option<&str>, other: Option<&str>) -> bool
-    ensures { result ≡ is_same (option_map (λ line. line.now) line.entry) (option_map (λ line. line.now) other.entry) }
+    ensures { result
+        ≡ is_same (option_map (λ line. line.now) line.entry) (option_map (λ line. line.now)
+        other.entry) }
 {
     match (line, other) {
         (Some(one), Some(two)) => one == two,
@@ -288,7 +316,9 @@ fn is_same_line(line: Option<&str>, other: Option<&str>) -> bool
 
 // Adds a line with a mark, where there is one.
 fn push_marked(text: &mut String, mark: &str, line: Option<&str>) -> Result<(), AllocError>
-    ensures { OnOk result (string_bytes text.new ≡ string_bytes text.old ++ marked_line mark.now (option_map (λ line. line.now) line.entry)) }
+    ensures { OnOk result (string_bytes text.new
+        ≡ string_bytes text.old
+        ++ marked_line mark.now (option_map (λ line. line.now) line.entry)) }
 {
     match line {
         Some(line) => writeln!(text, "{mark}{line}"),
@@ -311,8 +341,10 @@ fn behind(place: usize, line: Option<&str>) -> usize
 fn row_of<'a>(line: Option<&'a str>, other: Option<&'a str>) -> (Option<&'a str>, Option<&'a str>)
     ensures one { IsSideOf line.entry result.0 }
     ensures two { IsSideOf other.entry result.1 }
-    ensures some { is_some line.entry || is_some other.entry ≡ true → is_some result.0 || is_some result.1 ≡ true }
-    ensures single { IsOfOne (option_map (λ line. line.now) result.0) (option_map (λ line. line.now) result.1) }
+    ensures some { is_some line.entry || is_some other.entry ≡ true
+        → is_some result.0 || is_some result.1 ≡ true }
+    ensures single { IsOfOne (option_map (λ line. line.now) result.0) (option_map (λ line. line.now)
+        result.1) }
 {
     match (line, other) {
         (Some(one), Some(two)) => row_of_both(one, two),
@@ -325,7 +357,8 @@ fn row_of_both<'a>(one: &'a str, two: &'a str) -> (Option<&'a str>, Option<&'a s
     ensures one { IsSideOf (Some one.entry) result.0 }
     ensures two { IsSideOf (Some two.entry) result.1 }
     ensures some { is_some result.0 || is_some result.1 ≡ true }
-    ensures single { IsOfOne (option_map (λ line. line.now) result.0) (option_map (λ line. line.now) result.1) }
+    ensures single { IsOfOne (option_map (λ line. line.now) result.0) (option_map (λ line. line.now)
+        result.1) }
 {
     match (entity_of(one), entity_of(two)) {
         (None, Some(_)) => (None, Some(two)),

@@ -46,9 +46,12 @@ pub fn witness_of(
     pair: Pair,
 ) -> Result<Option<Witness>, Fault>
     requires { HasMemories built.now first.now }
-    ensures refused { IfErr result (IsUnwitnessed built.now (meanings_of_scripts built.now bodies.old) first.now) }
-    ensures witness { IfOk result (λ found. IfSome found (IsWitness built.now (meanings_of_scripts built.now bodies.old) first.now pair)) }
-    ensures meanings { meanings_of_scripts built.now bodies.new ≡ meanings_of_scripts built.now bodies.old }
+    ensures refused { IfErr result (IsUnwitnessed built.now
+        (meanings_of_scripts built.now bodies.old) first.now) }
+    ensures witness { IfOk result (λ found. IfSome found (IsWitness built.now
+        (meanings_of_scripts built.now bodies.old) first.now pair)) }
+    ensures meanings { meanings_of_scripts built.now bodies.new
+        ≡ meanings_of_scripts built.now bodies.old }
 {
     let Some(before) = outcome_in(alloc, built, bodies, first, turn_of(pair, false))? else {
         return Ok(None);
@@ -83,9 +86,13 @@ fn outcome_in(
     turn: Turn,
 ) -> Result<Option<RunOutcome>, Fault>
     requires { HasMemories built.now first.now }
-    ensures refused { IfErr result (IsUnwitnessed built.now (meanings_of_scripts built.now bodies.old) first.now) }
-    ensures outcome { IfOk result (λ found. IfSome found (IsOutcome built.now (meanings_of_scripts built.now bodies.old) first.now turn.racer turn.system turn.swapped)) }
-    ensures meanings { meanings_of_scripts built.now bodies.new ≡ meanings_of_scripts built.now bodies.old }
+    ensures refused { IfErr result (IsUnwitnessed built.now
+        (meanings_of_scripts built.now bodies.old) first.now) }
+    ensures outcome { IfOk result (λ found. IfSome found (IsOutcome built.now
+        (meanings_of_scripts built.now bodies.old) first.now turn.racer turn.system
+        turn.swapped)) }
+    ensures meanings { meanings_of_scripts built.now bodies.new
+        ≡ meanings_of_scripts built.now bodies.old }
 {
     let mut answers = vec![in alloc; true; built.condition_count() as usize]?;
     for _ in 0..u64::from(built.condition_count()) + 1 {
@@ -114,9 +121,12 @@ fn left_by(
     list: &Trace,
 ) -> Result<String, Fault>
     requires { Suits script_suits built.now (map Some bodies.old) first.now }
-    ensures refused { IfErr result (IsRefusedRun built.now (meanings_of_scripts built.now bodies.old) first.now list.now 1) }
-    ensures left { IfOk result (λ text. IsLeftBy built.now (meanings_of_scripts built.now bodies.old) first.now list.now (string_bytes text)) }
-    ensures meanings { meanings_of_scripts built.now bodies.new ≡ meanings_of_scripts built.now bodies.old }
+    ensures refused { IfErr result (IsRefusedRun built.now
+        (meanings_of_scripts built.now bodies.old) first.now list.now 1) }
+    ensures left { IfOk result (λ text. IsLeftBy built.now
+        (meanings_of_scripts built.now bodies.old) first.now list.now (string_bytes text)) }
+    ensures meanings { meanings_of_scripts built.now bodies.new
+        ≡ meanings_of_scripts built.now bodies.old }
 {
     let start = first.copy(alloc)?;
     let left = replay_run(alloc, built, bodies, start, list, 1)?;

@@ -32,9 +32,12 @@ pub(crate) fn worlds_of<B: Body>(
 ) -> Result<String, ReplayFault>
     requires suits { Suits B.fits built.now (map Some bodies.old) start }
     requires lawful { IsLawful (recording built.now trace.now.sets) trace.now.steps }
-    ensures told { IfOk result (λ text. string_bytes text ≡ worlds_text built.now (meanings B.meaning built.now (map Some bodies.old)) start before trace.now.steps) }
+    ensures told { IfOk result (λ text. string_bytes text
+        ≡ worlds_text built.now (meanings B.meaning built.now (map Some bodies.old)) start
+        before trace.now.steps) }
     ensures fit { OnOk result (AreFit B.fits built.now (map Some bodies.new)) }
-    ensures meanings { meanings B.meaning built.now (map Some bodies.new) ≡ meanings B.meaning built.now (map Some bodies.old) }
+    ensures meanings { meanings B.meaning built.now (map Some bodies.new)
+        ≡ meanings B.meaning built.now (map Some bodies.old) }
 {
     start.prove_shape();
     prove_fitting_keep(built, bodies);
@@ -54,12 +57,16 @@ fn worlds_in<B: Body>(
     trace: &Trace,
     before: u32,
 ) -> Result<String, ReplayFault>
-    requires stands { StandsBefore B.fits built.now (map Some bodies.old) first.deferred first.state }
+    requires stands { StandsBefore B.fits built.now (map Some bodies.old) first.deferred
+        first.state }
     requires keep { AllKeepWithin built.now (meanings B.meaning built.now (map Some bodies.old)) }
     requires lawful { IsLawful (recording built.now trace.now.sets) trace.now.steps }
-    ensures told { IfOk result (λ text. string_bytes text ≡ worlds_text built.now (meanings B.meaning built.now (map Some bodies.old)) first.state.state before trace.now.steps) }
+    ensures told { IfOk result (λ text. string_bytes text
+        ≡ worlds_text built.now (meanings B.meaning built.now (map Some bodies.old))
+        first.state.state before trace.now.steps) }
     ensures fit { OnOk result (AreFit B.fits built.now (map Some bodies.new)) }
-    ensures meanings { meanings B.meaning built.now (map Some bodies.new) ≡ meanings B.meaning built.now (map Some bodies.old) }
+    ensures meanings { meanings B.meaning built.now (map Some bodies.new)
+        ≡ meanings B.meaning built.now (map Some bodies.old) }
 {
     built.prove_law();
     first.state.prove_law();
@@ -85,7 +92,8 @@ fn told_after(
     before: u32,
 ) -> Result<RunState, AllocError>
     requires out { AreOut (store_of run.state) [] }
-    ensures told { OnOk result (string_bytes text.new ≡ string_bytes text.old ++ scene_text before number step run.state.state) }
+    ensures told { OnOk result (string_bytes text.new
+        ≡ string_bytes text.old ++ scene_text before number step run.state.state) }
     ensures state { IfOk result (λ later. later.state.state ≡ run.state.state) }
     ensures deferred { IfOk result (λ later. later.deferred ≡ run.deferred) }
     ensures out { IfOk result (λ later. AreOut (store_of later.state) []) }
@@ -112,7 +120,8 @@ fn told_after(
 
 // Adds the line before a world.
 fn push_head(text: &mut String, before: u32, step: usize, point: u32) -> Result<(), AllocError>
-    ensures { OnOk result (string_bytes text.new ≡ string_bytes text.old ++ head_text before step point) }
+    ensures { OnOk result (string_bytes text.new
+        ≡ string_bytes text.old ++ head_text before step point) }
 {
     let run = u64::from(before) + 1;
     writeln!(text, "== run {run} step {step} sync {point}")

@@ -25,9 +25,12 @@ impl Board {
         slots: usize,
         hands: usize,
     ) -> Result<(Lead<T>, Vec<Hand<T>>), AllocError>
-        ensures lead { IfOk result (λ b. (lead_slots b.0 ≡ slots) × ((free : List ℕ) × (read : List (ℕ × ℕ)) × (lead_view b.0 ≡ opened free read))) }
+        ensures lead { IfOk result (λ b. (lead_slots b.0 ≡ slots)
+            × ((free : List ℕ) × (read : List (ℕ × ℕ)) × (lead_view b.0 ≡ opened free read))) }
         ensures count { IfOk result (λ b. length b.1.items ≡ hands) }
-        ensures hands { IfOk result (λ b. (at : ℕ) (h : _) → get_elem? b.1.items at ≡ some h → (hand_table h ≡ lead_table b.0) × (hand_slots h ≡ slots) × ((found : ℕ) × (hand_view h ≡ having_read newcomer ((slots, found) ∷ [])))) }
+        ensures hands { IfOk result (λ b. (at : ℕ) (h : _) → get_elem? b.1.items at ≡ some h
+            → (hand_table h ≡ lead_table b.0) × (hand_slots h ≡ slots)
+            × ((found : ℕ) × (hand_view h ≡ having_read newcomer ((slots, found) ∷ [])))) }
     {
         let Some(count) = slots.checked_add(1) else {
             return Err(AllocError);

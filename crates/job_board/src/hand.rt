@@ -34,7 +34,8 @@ pub struct Hand<T: Task> {
 
 // Where the job of a number stands.
 fn place_of(held: &VecDeque<(JobNumber, usize)>, number: JobNumber) -> Option<usize>
-    ensures { MatchOption result ((at k : ℕ) → get_elem? held.now.items at ≢ some (number, k)) (λ p. (k : ℕ) × (get_elem? held.now.items p ≡ some (number, k))) }
+    ensures { MatchOption result ((at k : ℕ) → get_elem? held.now.items at ≢ some (number, k))
+        (λ p. (k : ℕ) × (get_elem? held.now.items p ≡ some (number, k))) }
 {
     for place in 0..held.len() {
         if held[place].0 == number {
@@ -57,9 +58,12 @@ impl<T: Task> Hand<T> {
         bells: Arc<Bells, Global>,
         slots: usize,
     ) -> Result<Hand<T>, AllocError>
-        requires { ((arc_value board).shared.table_id.slots ≡ slots) × ((arc_value board).shared.table_id.words ≡ slots + 1) }
-        ensures slots { IfOk result (λ h. (hand_slots h ≡ slots) × (hand_table h ≡ (arc_value board).shared.table_id)) }
-        ensures view { IfOk result (λ h. (found : ℕ) × (hand_view h ≡ having_read newcomer ((slots, found) ∷ []))) }
+        requires { ((arc_value board).shared.table_id.slots ≡ slots)
+            × ((arc_value board).shared.table_id.words ≡ slots + 1) }
+        ensures slots { IfOk result (λ h. (hand_slots h ≡ slots)
+            × (hand_table h ≡ (arc_value board).shared.table_id)) }
+        ensures view { IfOk result (λ h. (found : ℕ)
+            × (hand_view h ≡ having_read newcomer ((slots, found) ∷ []))) }
     {
         let held = VecDeque::with_capacity(alloc, slots)?;
         let (_, seat) = board.shared.load_new_seat::<Enter>(slots);
@@ -112,7 +116,10 @@ impl<T: Task> Hand<T> {
 
     /// Whether the board is closed.
     pub fn look_closed(&mut self) -> bool
-        ensures seen { (found : ℕ) × (hand_view self.new ≡ having_read (hand_view self.old) ((hand_slots self.old, found) ∷ [])) × MatchBool result (found ≡ 1) (found ≢ 1) }
+        ensures seen { (found : ℕ)
+            × (hand_view self.new
+            ≡ having_read (hand_view self.old) ((hand_slots self.old, found) ∷ []))
+            × MatchBool result (found ≡ 1) (found ≢ 1) }
         ensures slots { hand_slots self.new ≡ hand_slots self.old }
     {
         let words = &self.board.shared;
@@ -160,7 +167,8 @@ impl<T: Task> Hand<T> {
 
     /// Gives the outcome of a job that it holds.
     pub fn done(&mut self, number: JobNumber, outcome: T::Outcome)
-        requires { (slot : ℕ) × (j : T.Job) × HasJob (hand_view self.old) number slot j × T.answers j outcome }
+        requires { (slot : ℕ) × (j : T.Job) × HasJob (hand_view self.old) number slot j
+            × T.answers j outcome }
         ensures done { hand_view self.new ≡ after_done (hand_view self.old) number }
         ensures slots { hand_slots self.new ≡ hand_slots self.old }
     {

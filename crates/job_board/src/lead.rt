@@ -48,10 +48,14 @@ impl<T: Task> Lead<T> {
         mut seat: Place<T>,
         slots: usize,
     ) -> Result<Lead<T>, AllocError>
-        requires table { (seat.table_id ≡ (arc_value board).shared.table_id) × ((arc_value board).shared.table_id.slots ≡ slots) × ((arc_value board).shared.table_id.words ≡ slots + 1) }
+        requires table { (seat.table_id ≡ (arc_value board).shared.table_id)
+            × ((arc_value board).shared.table_id.slots ≡ slots)
+            × ((arc_value board).shared.table_id.words ≡ slots + 1) }
         requires first { seat.me ≡ (opener, []) }
-        ensures slots { IfOk result (λ l. (lead_slots l ≡ slots) × (lead_table l ≡ (arc_value board).shared.table_id)) }
-        ensures view { IfOk result (λ l. (free : List ℕ) × (read : List (ℕ × ℕ)) × (lead_view l ≡ opened free read)) }
+        ensures slots { IfOk result (λ l. (lead_slots l ≡ slots)
+            × (lead_table l ≡ (arc_value board).shared.table_id)) }
+        ensures view { IfOk result (λ l. (free : List ℕ) × (read : List (ℕ × ℕ))
+            × (lead_view l ≡ opened free read)) }
     {
         let mut free = Vec::with_capacity(alloc, slots)?;
         for claimed in 0..slots {
@@ -129,8 +133,13 @@ impl<T: Task> Lead<T> {
 
     /// Waits until it collects an outcome.
     pub fn collect_wait<R: Wait>(&mut self, rt: &R) -> (JobNumber, T::Outcome)
-        requires { (n : ℕ) × (j : T.Job) × HasPosted (lead_view self.old) n j × Uncollected (lead_view self.old) n }
-        ensures collected { (gained : List (ℕ × ℕ)) × (slot : ℕ) × (lead_view self.new ≡ after_collect (having_read (lead_view self.old) gained) result.0 result.1 slot) × Uncollected (lead_view self.old) result.0 × ((j : T.Job) × HasPosted (lead_view self.old) result.0 j × T.answers j result.1) }
+        requires { (n : ℕ) × (j : T.Job) × HasPosted (lead_view self.old) n j
+            × Uncollected (lead_view self.old) n }
+        ensures collected { (gained : List (ℕ × ℕ)) × (slot : ℕ)
+            × (lead_view self.new
+            ≡ after_collect (having_read (lead_view self.old) gained) result.0 result.1 slot)
+            × Uncollected (lead_view self.old) result.0
+            × ((j : T.Job) × HasPosted (lead_view self.old) result.0 j × T.answers j result.1) }
         ensures slots { lead_slots self.new ≡ lead_slots self.old }
     {
         for _ in rt.forever() {
@@ -153,7 +162,9 @@ impl<T: Task> Lead<T> {
     /// Numbers rise from 1, what is collected was posted, and no more is collected than posted.
     pub fn prove_law(&self)
         ensures numbers { IsTally (lead_view self.now) }
-        ensures counts { (length (lead_view self.now).collected ≤ length (lead_view self.now).posted) × (length (lead_view self.now).posted < 2 ^ 62) }
+        ensures counts { (length (lead_view self.now).collected
+            ≤ length (lead_view self.now).posted)
+            × (length (lead_view self.now).posted < 2 ^ 62) }
     {}
 
     /// Closes the board: hands that wait for a job wait no longer.

@@ -27,6 +27,10 @@ impl<T: Task> TableRule<Option<Content<T::Job, T::Outcome>>, View<T::Job, T::Out
 /// done was taken by the hand that did it, what is collected was done, is collected once, and answers the job that was posted under its number. Only the lead
 /// closes the board, and the word behind those of the slots is 1 exactly where it has: so a seat that has read 1 there has read that the board is closed.
 pub fn hand_off_holds<T: Task>()
-    ensures jobs { (s : _) → ⟦<HandOff<T> as TableRule<Option<Content<T::Job, T::Outcome>>, View<T::Job, T::Outcome>, ()>>⟧.holds tt s → HandsOff T.answers (length s.homes) s.views }
-    ensures closing { (s : _) → ⟦<HandOff<T> as TableRule<Option<Content<T::Job, T::Outcome>>, View<T::Job, T::Outcome>, ()>>⟧.holds tt s → ClosingFits s.views s.words (length s.homes) }
+    ensures jobs { (s : _)
+        → ⟦<HandOff<T> as TableRule<Option<Content<T::Job, T::Outcome>>, View<T::Job, T::Outcome>, ()>>⟧.holds tt s
+        → HandsOff T.answers (length s.homes) s.views }
+    ensures closing { (s : _)
+        → ⟦<HandOff<T> as TableRule<Option<Content<T::Job, T::Outcome>>, View<T::Job, T::Outcome>, ()>>⟧.holds tt s
+        → ClosingFits s.views s.words (length s.homes) }
 {}

@@ -22,7 +22,8 @@ pub fn text_of_check(alloc: Global, verdicts: &[Verdict]) -> Result<String, Allo
 
 // Adds the line of a run.
 fn push_verdict(text: &mut String, number: usize, verdict: Verdict) -> Result<(), AllocError>
-    ensures { OnOk result (string_bytes text.new ≡ string_bytes text.old ++ verdict_line number verdict) }
+    ensures { OnOk result (string_bytes text.new
+        ≡ string_bytes text.old ++ verdict_line number verdict) }
 {
     writeln!(text, "run {number} {verdict}")
 }

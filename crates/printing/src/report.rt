@@ -16,7 +16,8 @@ pub fn text_of_report(
     pairs: &[Pair],
     settled: bool,
 ) -> Result<String, AllocError>
-    ensures { IfOk result (λ text. string_bytes text ≡ report_text (map (λ name. name.now) names.now) pairs.now settled) }
+    ensures { IfOk result (λ text. string_bytes text
+        ≡ report_text (map (λ name. name.now) names.now) pairs.now settled) }
 {
     let mut text = String::new(alloc);
     push_pairs(&mut text, names, pairs)?;
@@ -26,7 +27,9 @@ pub fn text_of_report(
 
 // Adds the lines of these pairs.
 fn push_pairs(text: &mut String, names: &[&str], pairs: &[Pair]) -> Result<(), AllocError>
-    ensures { OnOk result (string_bytes text.new ≡ string_bytes text.old ++ flat_map (pair_line (map (λ name. name.now) names.now)) pairs.now) }
+    ensures { OnOk result (string_bytes text.new
+        ≡ string_bytes text.old
+        ++ flat_map (pair_line (map (λ name. name.now) names.now)) pairs.now) }
 {
     for pair in pairs {
         push_pair(text, names, *pair)?;
@@ -36,7 +39,8 @@ fn push_pairs(text: &mut String, names: &[&str], pairs: &[Pair]) -> Result<(), A
 
 /// Adds the line of a pair.
 pub fn push_pair(text: &mut String, names: &[&str], pair: Pair) -> Result<(), AllocError>
-    ensures { OnOk result (string_bytes text.new ≡ string_bytes text.old ++ pair_line (map (λ name. name.now) names.now) pair) }
+    ensures { OnOk result (string_bytes text.new
+        ≡ string_bytes text.old ++ pair_line (map (λ name. name.now) names.now) pair) }
 {
     push_racer(text, names, pair.first)?;
     let second = name_of(names, pair.second);
@@ -49,7 +53,8 @@ pub fn push_pair(text: &mut String, names: &[&str], pair: Pair) -> Result<(), Al
 
 /// Adds what races: the name of a system, or the number of a condition.
 pub fn push_racer(text: &mut String, names: &[&str], racer: Racer) -> Result<(), AllocError>
-    ensures { OnOk result (string_bytes text.new ≡ string_bytes text.old ++ racer_text (map (λ name. name.now) names.now) racer) }
+    ensures { OnOk result (string_bytes text.new
+        ≡ string_bytes text.old ++ racer_text (map (λ name. name.now) names.now) racer) }
 {
     match racer {
         Racer::System(system) => {

@@ -33,14 +33,16 @@ pub fn text_of_world(
 
 // Adds the line of a count.
 fn push_count(text: &mut String, name: &str, count: u64) -> Result<(), AllocError>
-    ensures { OnOk result (string_bytes text.new ≡ string_bytes text.old ++ count_line name.now count) }
+    ensures { OnOk result (string_bytes text.new
+        ≡ string_bytes text.old ++ count_line name.now count) }
 {
     writeln!(text, "{name} {count}")
 }
 
 // Adds the lines of these resources.
 fn push_resources(text: &mut String, world: &World, list: &[Res]) -> Result<(), AllocError>
-    ensures { OnOk result (string_bytes text.new ≡ string_bytes text.old ++ lines_of list.now world.now.state.resources) }
+    ensures { OnOk result (string_bytes text.new
+        ≡ string_bytes text.old ++ lines_of list.now world.now.state.resources) }
 {
     for res in list {
         push_resource(text, *res, world.res(*res))?;
@@ -50,7 +52,8 @@ fn push_resources(text: &mut String, world: &World, list: &[Res]) -> Result<(), 
 
 // Adds the line of a resource.
 fn push_resource(text: &mut String, res: Res, value: i64) -> Result<(), AllocError>
-    ensures { OnOk result (string_bytes text.new ≡ string_bytes text.old ++ resource_line res value) }
+    ensures { OnOk result (string_bytes text.new
+        ≡ string_bytes text.old ++ resource_line res value) }
 {
     writeln!(text, "{res} {value}")
 }
@@ -58,7 +61,8 @@ fn push_resource(text: &mut String, res: Res, value: i64) -> Result<(), AllocErr
 // Adds the line of each entity that lives.
 fn push_entities(alloc: Global, text: &mut String, world: &World) -> Result<(), AllocError>
     requires { AreAllHome world.now.layout }
-    ensures { OnOk result (string_bytes text.new ≡ string_bytes text.old ++ slot_lines 0 world.now.state.slots) }
+    ensures { OnOk result (string_bytes text.new
+        ≡ string_bytes text.old ++ slot_lines 0 world.now.state.slots) }
 {
     for index in 0..world.slot_count() {
         push_slot(alloc, text, index, world)?;
@@ -70,7 +74,8 @@ fn push_entities(alloc: Global, text: &mut String, world: &World) -> Result<(), 
 fn push_slot(alloc: Global, text: &mut String, index: u32, world: &World) -> Result<(), AllocError>
     requires within { index < length world.now.state.slots }
     requires home { AreAllHome world.now.layout }
-    ensures { OnOk result (string_bytes text.new ≡ string_bytes text.old ++ slot_line index (slot_at world.now.state.slots index)) }
+    ensures { OnOk result (string_bytes text.new
+        ≡ string_bytes text.old ++ slot_line index (slot_at world.now.state.slots index)) }
 {
     let slot = world.slot_at(index);
     if slot.is_living() {
@@ -89,7 +94,9 @@ fn push_entity(
     generation: u32,
     components: &[StampedValue],
 ) -> Result<(), AllocError>
-    ensures { OnOk result (string_bytes text.new ≡ string_bytes text.old ++ entity_line index generation (map component_of components.now)) }
+    ensures { OnOk result (string_bytes text.new
+        ≡ string_bytes text.old
+        ++ entity_line index generation (map component_of components.now)) }
 {
     write!(text, "{index}v{generation}")?;
     push_row(text, components)?;
@@ -98,7 +105,8 @@ fn push_entity(
 
 // Adds the components of an entity.
 fn push_row(text: &mut String, components: &[StampedValue]) -> Result<(), AllocError>
-    ensures { OnOk result (string_bytes text.new ≡ string_bytes text.old ++ row_text (map component_of components.now)) }
+    ensures { OnOk result (string_bytes text.new
+        ≡ string_bytes text.old ++ row_text (map component_of components.now)) }
 {
     for component in components {
         push_component(text, &component.value)?;
@@ -108,7 +116,9 @@ fn push_row(text: &mut String, components: &[StampedValue]) -> Result<(), AllocE
 
 // Adds a component.
 fn push_component(text: &mut String, value: &Value) -> Result<(), AllocError>
-    ensures { OnOk result (string_bytes text.new ≡ string_bytes text.old ++ component_text (value_number value.now) (value_words value.now)) }
+    ensures { OnOk result (string_bytes text.new
+        ≡ string_bytes text.old
+        ++ component_text (value_number value.now) (value_words value.now)) }
 {
     let kind = value.kind();
     write!(text, " {kind}")?;

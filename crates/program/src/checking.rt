@@ -25,7 +25,8 @@ pub const MOST_TRACE_BYTES: usize = 67_108_864;
 
 /// What a schedule says of each run of a trace, a line for each. The exit status is 0 where all of them are complete.
 pub fn check_trace<T: Read>(alloc: Global, built: &Built, trace: &mut T) -> Result<Answer, Fault>
-    ensures done { IfOk result (λ answer. IsCheckOf built.now (T.remaining trace.old) answer.status (string_bytes answer.text)) }
+    ensures done { IfOk result (λ answer. IsCheckOf built.now (T.remaining trace.old) answer.status
+        (string_bytes answer.text)) }
     ensures refused { IfErr result (IsTraceUnread (T.remaining trace.old)) }
 {
     let traces = traces_of(alloc, trace)?;
@@ -46,7 +47,8 @@ pub fn check_trace<T: Read>(alloc: Global, built: &Built, trace: &mut T) -> Resu
 /// The traces that a reader has, at most 67,108,864 bytes.
 pub fn traces_of<T: Read>(alloc: Global, trace: &mut T) -> Result<Vec<Trace>, Fault>
     ensures fitting { IfOk result (λ traces. AreFitting traces.items) }
-    ensures read { IfOk result (λ traces. IfSome (T.remaining trace.old) (λ bytes. bytes ≡ trace_text traces.items)) }
+    ensures read { IfOk result (λ traces. IfSome (T.remaining trace.old) (λ bytes. bytes
+        ≡ trace_text traces.items)) }
     ensures refused { IfErr result (IsTraceUnread (T.remaining trace.old)) }
 {
     let bytes = match read_whole(alloc, trace, MOST_TRACE_BYTES) {

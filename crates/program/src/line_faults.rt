@@ -17,7 +17,11 @@ pub fn tell_line_fault<O: Write, E: Write>(
     faults: &mut E,
     fault: &LineFault,
 ) -> u8
-    ensures { IsLineReported fault.now result (O.contents out.old, O.contents out.new) (E.contents faults.old, E.contents faults.new) }
+    ensures { IsLineReported fault.now result (O.contents out.old, O.contents out.new) (
+      E.contents
+          faults.old,
+      E.contents faults.new,
+    ) }
 {
     match fault {
         LineFault::Help(text) => print_help(alloc, out, faults, text.as_str()),
@@ -30,7 +34,11 @@ pub fn tell_line_fault<O: Write, E: Write>(
 
 // Prints help, and gives the exit status.
 fn print_help<O: Write, E: Write>(alloc: Global, out: &mut O, faults: &mut E, text: &str) -> u8
-    ensures { IsHelp text.now result (O.contents out.old, O.contents out.new) (E.contents faults.old, E.contents faults.new) }
+    ensures { IsHelp text.now result (O.contents out.old, O.contents out.new) (
+      E.contents
+          faults.old,
+      E.contents faults.new,
+    ) }
 {
     match write_whole(out, text) {
         Ok(()) => 0,

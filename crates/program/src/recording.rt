@@ -16,7 +16,8 @@ pub fn note_all(
     traces: &[Trace],
 ) -> Result<Option<String>, AllocError>
     requires { before + length traces.now < 2 ^ 32 }
-    ensures { IfOk result (λ kept. (others : List Recorded) → length others ≡ before → IsKeptOf others text → IsKeptOf (others ++ traces.now) kept) }
+    ensures { IfOk result (λ kept. (others : List Recorded) → length others ≡ before
+        → IsKeptOf others text → IsKeptOf (others ++ traces.now) kept) }
 {
     let Some((trace, others)) = traces.split_first() else {
         return Ok(text);
@@ -27,7 +28,8 @@ pub fn note_all(
 
 // What is kept of a record once the run of this number stands behind those that it has.
 fn note(text: Option<String>, number: u32, trace: &Trace) -> Result<Option<String>, AllocError>
-    ensures { IfOk result (λ kept. (others : List Recorded) → length others + 1 ≡ number → IsKeptOf others text → IsKeptOf (others ++ trace.now ∷ []) kept) }
+    ensures { IfOk result (λ kept. (others : List Recorded) → length others + 1 ≡ number
+        → IsKeptOf others text → IsKeptOf (others ++ trace.now ∷ []) kept) }
 {
     let Some(mut text) = text else {
         return Ok(None);

@@ -39,9 +39,15 @@ pub fn replay_trace<T: Read>(
     trace: &mut T,
 ) -> Result<Answer, Fault>
     requires { AreScriptsOf built.now bodies.items }
-    ensures text { IfOk result (λ answer. IsTextOfReplay built.now (meanings_of_scripts built.now bodies.items) (loaded built.now (map entity_given entities.now) resources.now) (T.remaining trace.old) (string_bytes answer.text)) }
+    ensures text { IfOk result (λ answer. IsTextOfReplay built.now
+        (meanings_of_scripts built.now bodies.items)
+        (loaded built.now (map entity_given entities.now) resources.now) (T.remaining trace.old)
+        (string_bytes answer.text)) }
     ensures status { IfOk result (λ answer. answer.status ≡ 0) }
-    ensures stopped { IfErr result (IsUnreplayed built.now (meanings_of_scripts built.now bodies.items) (loaded built.now (map entity_given entities.now) resources.now) (length entities.now) (T.remaining trace.old)) }
+    ensures stopped { IfErr result (IsUnreplayed built.now
+        (meanings_of_scripts built.now bodies.items)
+        (loaded built.now (map entity_given entities.now) resources.now) (length entities.now)
+        (T.remaining trace.old)) }
 {
     let traces = traces_of(alloc, trace)?;
     let world = world_of(alloc, entities, resources)?;
@@ -69,8 +75,10 @@ fn replay_runs(
     traces: &[Trace],
 ) -> Result<State, Fault>
     requires { Suits script_suits built.now (map Some bodies.old) state }
-    ensures replayed { IfOk result (λ left. AreReplayed built.now (meanings_of_scripts built.now bodies.old) state traces.now left) }
-    ensures refused { IfErr result (IsRefusedAmong built.now (meanings_of_scripts built.now bodies.old) state traces.now) }
+    ensures replayed { IfOk result (λ left. AreReplayed built.now
+        (meanings_of_scripts built.now bodies.old) state traces.now left) }
+    ensures refused { IfErr result (IsRefusedAmong built.now
+        (meanings_of_scripts built.now bodies.old) state traces.now) }
 {
     let mut number = 0;
     for trace in traces {
@@ -90,10 +98,13 @@ pub fn replay_run(
     run: usize,
 ) -> Result<State, Fault>
     requires { Suits script_suits built.now (map Some bodies.old) state }
-    ensures replayed { IfOk result (IsReplayed (recording built.now trace.now.sets) (meanings_of_scripts built.now bodies.old) state trace.now.steps) }
-    ensures refused { IfErr result (IsRefusedRun built.now (meanings_of_scripts built.now bodies.old) state trace.now run) }
+    ensures replayed { IfOk result (IsReplayed (recording built.now trace.now.sets)
+        (meanings_of_scripts built.now bodies.old) state trace.now.steps) }
+    ensures refused { IfErr result (IsRefusedRun built.now
+        (meanings_of_scripts built.now bodies.old) state trace.now run) }
     ensures suits { IfOk result (λ left. Suits script_suits built.now (map Some bodies.new) left) }
-    ensures meanings { meanings_of_scripts built.now bodies.new ≡ meanings_of_scripts built.now bodies.old }
+    ensures meanings { meanings_of_scripts built.now bodies.new
+        ≡ meanings_of_scripts built.now bodies.old }
 {
     match replay(alloc, built, bodies, state, trace) {
         Ok(left) => Ok(left),

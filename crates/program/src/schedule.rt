@@ -35,10 +35,13 @@ pub(crate) fn declare<'a>(
     rows: Vec<SystemTable<'a>>,
     chains: &[ChainTable<'a>],
 ) -> Result<(ScheduleDesc, Vec<Code<'a>>), AllocError>
-    ensures said { IfOk result (λ declared. declared.0 ≡ declared_said sets.entry.items rows.entry.items chains.now) }
-    ensures blocks { IfOk result (λ declared. map (λ code. code.blocks) declared.1.items ≡ map (λ row. row.blocks) rows.entry.items) }
+    ensures said { IfOk result (λ declared. declared.0
+        ≡ declared_said sets.entry.items rows.entry.items chains.now) }
+    ensures blocks { IfOk result (λ declared. map (λ code. code.blocks) declared.1.items
+        ≡ map (λ row. row.blocks) rows.entry.items) }
     ensures count { IfOk result (λ declared. length declared.1.items ≡ length declared.0.systems) }
-    ensures names { IfOk result (λ declared. map (λ code. code.name.now) declared.1.items ≡ declared_names declared.0) }
+    ensures names { IfOk result (λ declared. map (λ code. code.name.now) declared.1.items
+        ≡ declared_names declared.0) }
 {
     let mut desc = declare_sets(alloc, sets)?;
     let mut codes = Vec::with_capacity(alloc, rows.len())?;
@@ -57,7 +60,8 @@ fn declare_chains(
     chains: &[ChainTable<'_>],
     desc: &mut ScheduleDesc,
 ) -> Result<(), AllocError>
-    ensures { OnOk result (desc.new ≡ record desc.old { chains = desc.old.chains ++ map chain_said chains.now }) }
+    ensures { OnOk result (desc.new
+        ≡ record desc.old { chains = desc.old.chains ++ map chain_said chains.now }) }
 {
     for chain in chains {
         desc.add_chain(chain_of(alloc, chain)?)?;
@@ -78,7 +82,8 @@ fn chain_of(alloc: Global, table: &ChainTable<'_>) -> Result<ChainDesc, AllocErr
 
 // The schedule of these sets, without systems and chains yet.
 fn declare_sets(alloc: Global, sets: Vec<ItemTable<'_>>) -> Result<ScheduleDesc, AllocError>
-    ensures { IfOk result (λ desc. desc ≡ record { sets = map item_said sets.entry.items; systems = []; chains = [] }) }
+    ensures { IfOk result (λ desc. desc
+        ≡ record { sets = map item_said sets.entry.items; systems = []; chains = [] }) }
 {
     let mut desc = ScheduleDesc::new(alloc);
     for set in sets {
@@ -123,7 +128,8 @@ fn item_of(alloc: Global, table: ItemTable<'_>) -> Result<ItemDesc, AllocError>
 
 // Declares the sets that an item is in.
 fn add_sets(alloc: Global, table: &ItemTable<'_>, item: &mut ItemDesc) -> Result<(), AllocError>
-    ensures { OnOk result (item.new ≡ record item.old { inside = item.old.inside ++ names_said table.now.inside.items }) }
+    ensures { OnOk result (item.new
+        ≡ record item.old { inside = item.old.inside ++ names_said table.now.inside.items }) }
 {
     for name in &table.inside {
         item.add_in(String::from_str(alloc, name)?)?;
@@ -133,7 +139,13 @@ fn add_sets(alloc: Global, table: &ItemTable<'_>, item: &mut ItemDesc) -> Result
 
 // Declares the orders of an item that wait for commands.
 fn add_orders(alloc: Global, table: &ItemTable<'_>, item: &mut ItemDesc) -> Result<(), AllocError>
-    ensures { OnOk result (item.new ≡ record item.old { before = item.old.before ++ names_said table.now.before.items; after = item.old.after ++ names_said table.now.after.items }) }
+    ensures { OnOk result (item.new
+        ≡ record item.old {
+          before = item.old.before
+              ++ names_said table.now.before.items;
+          after = item.old.after
+              ++ names_said table.now.after.items;
+        }) }
 {
     for name in &table.before {
         item.add_before(String::from_str(alloc, name)?)?;
@@ -146,7 +158,13 @@ fn add_orders(alloc: Global, table: &ItemTable<'_>, item: &mut ItemDesc) -> Resu
 
 // Declares the orders of an item that ignore that commands are deferred.
 fn add_ignoring(alloc: Global, table: &ItemTable<'_>, item: &mut ItemDesc) -> Result<(), AllocError>
-    ensures { OnOk result (item.new ≡ record item.old { before_ignore_deferred = item.old.before_ignore_deferred ++ names_said table.now.before_ignore_deferred.items; after_ignore_deferred = item.old.after_ignore_deferred ++ names_said table.now.after_ignore_deferred.items }) }
+    ensures { OnOk result (item.new
+        ≡ record item.old {
+          before_ignore_deferred = item.old.before_ignore_deferred
+              ++ names_said table.now.before_ignore_deferred.items;
+          after_ignore_deferred = item.old.after_ignore_deferred
+              ++ names_said table.now.after_ignore_deferred.items;
+        }) }
 {
     for name in &table.before_ignore_deferred {
         item.add_before_ignore_deferred(String::from_str(alloc, name)?)?;
@@ -163,7 +181,11 @@ fn add_ambiguities(
     table: &ItemTable<'_>,
     item: &mut ItemDesc,
 ) -> Result<(), AllocError>
-    ensures { OnOk result (item.new ≡ record item.old { ambiguous_with = item.old.ambiguous_with ++ names_said table.now.ambiguous_with.items }) }
+    ensures { OnOk result (item.new
+        ≡ record item.old {
+          ambiguous_with = item.old.ambiguous_with
+              ++ names_said table.now.ambiguous_with.items;
+        }) }
 {
     for name in &table.ambiguous_with {
         item.add_ambiguous_with(String::from_str(alloc, name)?)?;
@@ -173,7 +195,8 @@ fn add_ambiguities(
 
 // Declares that an item runs on these conditions.
 fn add_conditions(conditions: Vec<Cond>, item: &mut ItemDesc) -> Result<(), AllocError>
-    ensures { OnOk result (item.new ≡ record item.old { conditions = item.old.conditions ++ conditions.items }) }
+    ensures { OnOk result (item.new
+        ≡ record item.old { conditions = item.old.conditions ++ conditions.items }) }
 {
     for condition in conditions {
         item.add_condition(condition)?;
@@ -194,7 +217,8 @@ fn granted(alloc: Global, spawns: Option<u32>) -> Params
 
 // The parameters of a system with these queries, with Commands where there is a count of ids that it is granted, and nothing else.
 fn params_of(alloc: Global, queries: Vec<Query>, spawns: Option<u32>) -> Result<Params, AllocError>
-    ensures { IfOk result (λ params. params ≡ record no_params { queries = queries.items; spawns = spawns }) }
+    ensures { IfOk result (λ params. params
+        ≡ record no_params { queries = queries.items; spawns = spawns }) }
 {
     let mut params = granted(alloc, spawns);
     for query in queries {
@@ -205,7 +229,13 @@ fn params_of(alloc: Global, queries: Vec<Query>, spawns: Option<u32>) -> Result<
 
 // Adds each of these resources, which are read, and each of those, which are written.
 fn add_resources(params: &mut Params, res: &[Res], res_mut: &[Res]) -> Result<(), AllocError>
-    ensures { OnOk result (params.new ≡ record params.old { res = params.old.res ++ map res_number res.now; res_mut = params.old.res_mut ++ map res_number res_mut.now }) }
+    ensures { OnOk result (params.new
+        ≡ record params.old {
+          res = params.old.res
+              ++ map res_number res.now;
+          res_mut = params.old.res_mut
+              ++ map res_number res_mut.now;
+        }) }
 {
     for resource in res {
         params.add_res(*resource)?;
@@ -218,7 +248,13 @@ fn add_resources(params: &mut Params, res: &[Res], res_mut: &[Res]) -> Result<()
 
 // Adds a reader of each of these event kinds, and a writer of each of those.
 fn add_events(params: &mut Params, reads: &[Event], writes: &[Event]) -> Result<(), AllocError>
-    ensures { OnOk result (params.new ≡ record params.old { reads = params.old.reads ++ map event_number reads.now; writes = params.old.writes ++ map event_number writes.now }) }
+    ensures { OnOk result (params.new
+        ≡ record params.old {
+          reads = params.old.reads
+              ++ map event_number reads.now;
+          writes = params.old.writes
+              ++ map event_number writes.now;
+        }) }
 {
     for event in reads {
         params.add_reads(*event)?;
@@ -231,7 +267,8 @@ fn add_events(params: &mut Params, reads: &[Event], writes: &[Event]) -> Result<
 
 /// The names of the systems, by number.
 pub(crate) fn names_of<'a>(alloc: Global, codes: &[Code<'a>]) -> Result<Vec<&'a str>, AllocError>
-    ensures { IfOk result (λ names. map (λ name. name.now) names.items ≡ map (λ code. code.name.now) codes.now) }
+    ensures { IfOk result (λ names. map (λ name. name.now) names.items
+        ≡ map (λ code. code.name.now) codes.now) }
 {
     let mut names = Vec::with_capacity(alloc, codes.len())?;
     for code in codes {
@@ -249,8 +286,11 @@ pub(crate) fn bodies_of(
 ) -> Result<Vec<ScriptBody>, Fault>
     requires { length codes.items ≡ length built.now.systems }
     ensures fitting { IfOk result (λ bodies. AreScriptsOf built.now bodies.items) }
-    ensures said { IfOk result (λ bodies. bodies.items ≡ map (λ code. script_said code.blocks) codes.entry.items) }
-    ensures refused { IfErr result (IsUnscripted built.now (map (λ code. code.name.now) codes.entry.items) (map (λ code. script_said code.blocks) codes.entry.items)) }
+    ensures said { IfOk result (λ bodies. bodies.items
+        ≡ map (λ code. script_said code.blocks) codes.entry.items) }
+    ensures refused { IfErr result (IsUnscripted built.now
+        (map (λ code. code.name.now) codes.entry.items) (map (λ code. script_said code.blocks)
+        codes.entry.items)) }
 {
     let mut bodies = Vec::with_capacity(alloc, codes.len())?;
     for code in codes {
@@ -265,7 +305,8 @@ fn body_of(alloc: Global, built: &Built, system: usize, code: Code<'_>) -> Resul
     requires { system < length built.now.systems }
     ensures said { IfOk result (λ body. body ≡ script_said code.entry.blocks) }
     ensures fit { IfOk result (λ body. fits (schedule.params_of built.now system) body ≡ true) }
-    ensures refused { IfErr result (IsScriptRefused built.now system code.entry.name.now (script_said code.entry.blocks)) }
+    ensures refused { IfErr result (IsScriptRefused built.now system code.entry.name.now
+        (script_said code.entry.blocks)) }
 {
     let params = built.systems()[system].params();
     match ScriptBody::check(alloc, params, code.blocks) {

@@ -55,7 +55,10 @@ pub fn serve<'s, M: Mode<'s>, F: Read, T: Read, R: Write, O: Write, E: Write>(
     out: &mut O,
     faults: &mut E,
 ) -> u8
-    ensures { IsServed (M.has_scope mode.now) (M.width mode.now) args.now.work (F.remaining file.old) (T.remaining trace.old) result (O.contents out.old, O.contents out.new) (R.contents traces.old, R.contents traces.new) (E.contents faults.old, E.contents faults.new) }
+    ensures { IsServed (M.has_scope mode.now) (M.width mode.now) args.now.work
+        (F.remaining file.old) (T.remaining trace.old) result
+        (O.contents out.old, O.contents out.new) (R.contents traces.old, R.contents traces.new)
+        (E.contents faults.old, E.contents faults.new) }
 {
     let answer = match answer(alloc, args.work, mode, file, trace) {
         Ok(answer) => answer,
@@ -78,8 +81,10 @@ fn answer<'s, M: Mode<'s>, F: Read, T: Read>(
     file: &mut F,
     trace: &mut T,
 ) -> Result<Answer, Fault>
-    ensures done { IfOk result (λ answer. IsAnswerTo (M.width mode.now) work (F.remaining file.old) (T.remaining trace.old) answer) }
-    ensures refused { IfErr result (IsRefusedBy (M.has_scope mode.now) (M.width mode.now) (F.remaining file.old) (T.remaining trace.old) work) }
+    ensures done { IfOk result (λ answer. IsAnswerTo (M.width mode.now) work (F.remaining file.old)
+        (T.remaining trace.old) answer) }
+    ensures refused { IfErr result (IsRefusedBy (M.has_scope mode.now) (M.width mode.now)
+        (F.remaining file.old) (T.remaining trace.old) work) }
 {
     let document = document_in(alloc, file)?;
     let tables = ProgramFile::read(alloc, &document)?;
@@ -111,7 +116,8 @@ fn answer<'s, M: Mode<'s>, F: Read, T: Read>(
 
 /// The document that a file is.
 pub fn document_in<F: Read>(alloc: Global, file: &mut F) -> Result<Table, Fault>
-    ensures read { IfOk result (λ table. IfSome (F.remaining file.old) (λ text. parse_document text ≡ Some (table_view table))) }
+    ensures read { IfOk result (λ table. IfSome (F.remaining file.old) (λ text. parse_document text
+        ≡ Some (table_view table))) }
     ensures short { IfOk result (λ table. IsOfShortText (table_view table)) }
     ensures refused { IfErr result (IsUnread (F.remaining file.old)) }
 {
@@ -121,7 +127,8 @@ pub fn document_in<F: Read>(alloc: Global, file: &mut F) -> Result<Table, Fault>
 
 // The report of a schedule whose systems have these names.
 fn report_of(alloc: Global, built: &Built, names: &[&str]) -> Result<Answer, Fault>
-    ensures report { IfOk result (λ answer. IsTextOfReport (map (λ name. name.now) names.now) built.now (string_bytes answer.text)) }
+    ensures report { IfOk result (λ answer. IsTextOfReport (map (λ name. name.now) names.now)
+        built.now (string_bytes answer.text)) }
     ensures status { IfOk result (λ answer. answer.status ≡ 0) }
     ensures memory { IfErr result (λ fault. fault ≡ Fault.Memory) }
 {
@@ -146,9 +153,13 @@ fn run<'s, M: Mode<'s>>(
 ) -> Result<Answer, Fault>
     requires scripts { AreScriptsOf built bodies.items }
     requires home { AreAllHome world.layout }
-    ensures runs { IfOk result (λ answer. IsTextOfRuns (M.width mode.now) built (meanings_of_scripts built bodies.items) (first_state built world.state) times recorded (string_bytes answer.text) (string_bytes answer.traces)) }
+    ensures runs { IfOk result (λ answer. IsTextOfRuns (M.width mode.now) built
+        (meanings_of_scripts built bodies.items) (first_state built world.state) times recorded
+        (string_bytes answer.text) (string_bytes answer.traces)) }
     ensures status { IfOk result (λ answer. answer.status ≡ 0) }
-    ensures stopped { IfErr result (IsUnrun (M.has_scope mode.now) (M.width mode.now) built (meanings_of_scripts built bodies.items) times (first_state built world.state) recorded) }
+    ensures stopped { IfErr result (IsUnrun (M.has_scope mode.now) (M.width mode.now) built
+        (meanings_of_scripts built bodies.items) times (first_state built world.state)
+        recorded) }
 {
     let state = first_state(alloc, &built, world)?;
     let mut engine = match Engine::new(alloc, built, bodies, state) {
@@ -179,8 +190,12 @@ fn run_times<'s, M: Mode<'s>>(
     mode: &M,
 ) -> Result<String, Fault>
     requires { IsFalse engine.old.spoiled }
-    ensures noted { IfOk result (λ text. HaveNoted (M.width mode.now) engine.old.schedule (meanings script_means engine.old.schedule engine.old.bodies) engine.old.state times recorded engine.new.state (string_bytes text)) }
-    ensures stopped { IfErr result (IsUnrun (M.has_scope mode.now) (M.width mode.now) engine.old.schedule (meanings script_means engine.old.schedule engine.old.bodies) times engine.old.state recorded) }
+    ensures noted { IfOk result (λ text. HaveNoted (M.width mode.now) engine.old.schedule
+        (meanings script_means engine.old.schedule engine.old.bodies) engine.old.state times
+        recorded engine.new.state (string_bytes text)) }
+    ensures stopped { IfErr result (IsUnrun (M.has_scope mode.now) (M.width mode.now)
+        engine.old.schedule (meanings script_means engine.old.schedule engine.old.bodies) times
+        engine.old.state recorded) }
 {
     let mut text = Some(String::new(alloc));
     let mut done = 0;
@@ -207,11 +222,16 @@ fn run_some<'s, M: Mode<'s>>(
 ) -> Result<Vec<Trace>, Fault>
     requires { IsFalse engine.old.spoiled }
     ensures count { IfOk result (λ traces. length traces.items ≡ times) }
-    ensures ran { IfOk result (λ traces. HaveRun (M.width mode.now) engine.old.schedule (meanings script_means engine.old.schedule engine.old.bodies) engine.old.state traces.items engine.new.state) }
+    ensures ran { IfOk result (λ traces. HaveRun (M.width mode.now) engine.old.schedule
+        (meanings script_means engine.old.schedule engine.old.bodies) engine.old.state
+        traces.items engine.new.state) }
     ensures schedule { engine.new.schedule ≡ engine.old.schedule }
-    ensures meant { OnOk result (meanings script_means engine.old.schedule engine.new.bodies ≡ meanings script_means engine.old.schedule engine.old.bodies) }
+    ensures meant { OnOk result (meanings script_means engine.old.schedule engine.new.bodies
+        ≡ meanings script_means engine.old.schedule engine.old.bodies) }
     ensures sound { OnOk result (IsFalse engine.new.spoiled) }
-    ensures stopped { IfErr result (IsStoppedRun (M.has_scope mode.now) (M.width mode.now) engine.old.schedule (meanings script_means engine.old.schedule engine.old.bodies) times engine.old.state) }
+    ensures stopped { IfErr result (IsStoppedRun (M.has_scope mode.now) (M.width mode.now)
+        engine.old.schedule (meanings script_means engine.old.schedule engine.old.bodies) times
+        engine.old.state) }
 {
     match engine.run(alloc, times, mode) {
         Ok(traces) => Ok(traces),

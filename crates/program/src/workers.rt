@@ -36,7 +36,10 @@ pub fn serve_in_scope<
     out: &mut O,
     faults: &mut E,
 ) -> u8
-    ensures { 1 ≤ workers → workers ≤ 64 → IsServed true workers args.now.work (F.remaining file.old) (T.remaining trace.old) result (O.contents out.old, O.contents out.new) (R.contents traces.old, R.contents traces.new) (E.contents faults.old, E.contents faults.new) }
+    ensures { 1 ≤ workers → workers ≤ 64
+        → IsServed true workers args.now.work (F.remaining file.old) (T.remaining trace.old) result
+        (O.contents out.old, O.contents out.new) (R.contents traces.old, R.contents traces.new)
+        (E.contents faults.old, E.contents faults.new) }
 {
     let count = workers.max(1).min(64) as usize;
     let mode = Workers::new(count, scope, runtime, &NO_GATE);

@@ -26,7 +26,8 @@ pub fn world_of(
     entities: &[Vec<Value>],
     resources: &[i64; 8],
 ) -> Result<World, Fault>
-    ensures world { IfOk result (λ world. world.state ≡ loaded_world (map entity_given entities.now) resources.now) }
+    ensures world { IfOk result (λ world. world.state
+        ≡ loaded_world (map entity_given entities.now) resources.now) }
     ensures home { IfOk result (λ world. AreAllHome world.layout) }
     ensures refused { IfErr result (IsUngiven (length entities.now)) }
 {
@@ -53,7 +54,8 @@ fn give_entities(alloc: Global, world: &mut World, entities: &[Vec<Value>]) -> R
     requires clock { 1 ≤ world.old.state.clock }
     requires empty { world.old.state.slots ≡ [] }
     requires home { AreAllHome world.old.layout }
-    ensures given { OnOk result (world.new.state ≡ with_entities (map entity_given entities.now) world.old.state) }
+    ensures given { OnOk result (world.new.state
+        ≡ with_entities (map entity_given entities.now) world.old.state) }
     ensures home { AreAllHome world.new.layout }
     ensures refused { IfErr result (IsUngiven (length entities.now)) }
 {
@@ -73,7 +75,8 @@ fn changes_of(
     entities: &[Vec<Value>],
 ) -> Result<Vec<EntityChange>, AllocError>
     requires { length ids.now ≡ length entities.now }
-    ensures { IfOk result (λ changes. AreGiven ids.now (map entity_given entities.now) changes.items) }
+    ensures { IfOk result (λ changes. AreGiven ids.now (map entity_given entities.now)
+        changes.items) }
 {
     let mut changes = Vec::with_capacity(alloc, entities.len())?;
     for (index, values) in entities.iter().enumerate() {
@@ -86,7 +89,8 @@ fn changes_of(
 
 // The components of an entity as the store has them: in rising kinds, all added as the file is loaded.
 fn row_of(alloc: Global, values: &[Value]) -> Result<Components, AllocError>
-    ensures { IfOk result (λ row. map component_of row.items ≡ row_given (map given_of values.now)) }
+    ensures { IfOk result (λ row. map component_of row.items
+        ≡ row_given (map given_of values.now)) }
 {
     let mut row = Components::with_capacity(alloc, values.len())?;
     for value in values {

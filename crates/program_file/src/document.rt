@@ -12,8 +12,10 @@ use toml::Table;
 
 /// The document that the bytes of a program file are. Bytes that are none are `Document`.
 pub fn document_of(alloc: Global, bytes: &[u8]) -> Result<Table, FileFault>
-    ensures ok { IfOk result (λ table. IsUtf8 bytes.now × (parse_document bytes.now ≡ Some (table_view table))) }
-    ensures refused { IsErrOf result FileFault.Document → IsUtf8 bytes.now → parse_document bytes.now ≡ None }
+    ensures ok { IfOk result (λ table. IsUtf8 bytes.now
+        × (parse_document bytes.now ≡ Some (table_view table))) }
+    ensures refused { IsErrOf result FileFault.Document → IsUtf8 bytes.now
+        → parse_document bytes.now ≡ None }
     ensures only { IfErr result IsOfBytes }
 {
     match toml::table_from_slice(alloc, bytes) {

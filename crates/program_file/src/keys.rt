@@ -20,8 +20,10 @@ use toml::{Table, Value};
 
 /// Refuses a table that has another key than these.
 pub fn refuse_unknown(table: &Table, known: &[&str]) -> Result<(), PlaceFault>
-    ensures ok { IfOk result (λ _. HasOnly (map (λ name. name.now) known.now) (table_view table.now)) }
-    ensures refused { IfErr result (λ fault. (fault ≡ PlaceFault.Value) × (HasOnly (map (λ name. name.now) known.now) (table_view table.now) → ⊥)) }
+    ensures ok { IfOk result (λ _. HasOnly (map (λ name. name.now) known.now) (table_view
+        table.now)) }
+    ensures refused { IfErr result (λ fault. (fault ≡ PlaceFault.Value)
+        × (HasOnly (map (λ name. name.now) known.now) (table_view table.now) → ⊥)) }
 {
     if has_only(table, known) {
         Ok(())
@@ -33,7 +35,8 @@ pub fn refuse_unknown(table: &Table, known: &[&str]) -> Result<(), PlaceFault>
 /// Refuses a table without this key.
 pub fn refuse_missing(table: &Table, key: &str) -> Result<(), PlaceFault>
     ensures ok { IfOk result (λ _. HasKey key.now (table_view table.now)) }
-    ensures refused { IfErr result (λ fault. (fault ≡ PlaceFault.Value) × (HasKey key.now (table_view table.now) → ⊥)) }
+    ensures refused { IfErr result (λ fault. (fault ≡ PlaceFault.Value)
+        × (HasKey key.now (table_view table.now) → ⊥)) }
 {
     match value_at(table, key) {
         Some(_) => Ok(()),
@@ -58,16 +61,19 @@ fn is_among(text: &str, known: &[&str]) -> bool
 /// The value at a key.
 #[tactic(auto, using(toml::proofs::Views::table_get))]
 pub fn value_at<'a>(table: &'a Table, key: &str) -> Option<&'a Value>
-    ensures { option_map (λ value. view value.now) result ≡ get_member key.now (table_view table.now) }
+    ensures { option_map (λ value. view value.now) result
+        ≡ get_member key.now (table_view table.now) }
 {
     table.get(key)
 }
 
 /// The array at a key. One that isn't there is empty.
 pub fn items_at<'a>(table: &'a Table, key: &str) -> Result<&'a [Value], PlaceFault>
-    ensures ok { IfOk result (λ items. HasItems key.now (map view items.now) (table_view table.now)) }
+    ensures ok { IfOk result (λ items. HasItems key.now (map view items.now) (table_view
+        table.now)) }
     ensures err { IfErr result (λ fault. fault ≡ PlaceFault.Value) }
-    ensures refused { IfErr result (NoneIs (λ (values : List Data). HasItems key.now values (table_view table.now))) }
+    ensures refused { IfErr result (NoneIs (λ (values : List Data). HasItems key.now values
+        (table_view table.now))) }
 {
     match value_at(table, key) {
         None => Ok(&[]),
@@ -80,9 +86,11 @@ pub fn items_at<'a>(table: &'a Table, key: &str) -> Result<&'a [Value], PlaceFau
 
 /// The table at a key, if it is there.
 pub fn table_at<'a>(table: &'a Table, key: &str) -> Result<Option<&'a Table>, PlaceFault>
-    ensures ok { IfOk result (λ inner. HasTable key.now (lent_members inner) (table_view table.now)) }
+    ensures ok { IfOk result (λ inner. HasTable key.now (lent_members inner) (table_view
+        table.now)) }
     ensures err { IfErr result (λ fault. fault ≡ PlaceFault.Value) }
-    ensures refused { IfErr result (NoneIs (λ (members : Members). HasTable key.now members (table_view table.now))) }
+    ensures refused { IfErr result (NoneIs (λ (members : Members). HasTable key.now members
+        (table_view table.now))) }
 {
     match value_at(table, key) {
         None => Ok(None),
@@ -96,9 +104,11 @@ pub fn tables_at<'a>(
     table: &'a Table,
     key: &str,
 ) -> Result<Vec<&'a Table>, PlaceFault>
-    ensures ok { IfOk result (λ tables. HasTables key.now (map (λ inner. table_view inner.now) tables.items) (table_view table.now)) }
+    ensures ok { IfOk result (λ tables. HasTables key.now
+        (map (λ inner. table_view inner.now) tables.items) (table_view table.now)) }
     ensures err { IfErr result IsNoText }
-    ensures refused { IfErr result (NoneIs (λ (tables : List Members). HasTables key.now tables (table_view table.now))) }
+    ensures refused { IfErr result (NoneIs (λ (tables : List Members). HasTables key.now tables
+        (table_view table.now))) }
 {
     let mut tables = Vec::new(alloc);
     for item in items_at(table, key)? {
@@ -111,7 +121,8 @@ pub fn tables_at<'a>(
 fn table_of(value: &Value) -> Result<&Table, PlaceFault>
     ensures ok { IfOk result (λ inner. IsTable (table_view inner.now) (view value.now)) }
     ensures err { IfErr result (λ fault. fault ≡ PlaceFault.Value) }
-    ensures refused { IfErr result (NoneIs (λ (members : Members). IsTable members (view value.now))) }
+    ensures refused { IfErr result (NoneIs (λ (members : Members). IsTable members (view
+        value.now))) }
 {
     value.as_table().ok_or(PlaceFault::Value)
 }
@@ -120,7 +131,8 @@ fn table_of(value: &Value) -> Result<&Table, PlaceFault>
 pub fn texts_at<'a>(alloc: Global, table: &'a Table, key: &str) -> Result<Vec<&'a str>, PlaceFault>
     ensures ok { IfOk result (λ texts. HasNames key.now texts.items (table_view table.now)) }
     ensures err { IfErr result IsNoText }
-    ensures refused { IfErr result (NoneIs (λ (texts : List (List ℕ)). HasTexts key.now texts (table_view table.now))) }
+    ensures refused { IfErr result (NoneIs (λ (texts : List (List ℕ)). HasTexts key.now texts
+        (table_view table.now))) }
 {
     let mut texts = Vec::new(alloc);
     for item in items_at(table, key)? {
@@ -143,7 +155,9 @@ pub fn names_at<'a>(alloc: Global, table: &'a Table, key: &str) -> Result<Vec<&'
     ensures names { IfOk result (λ names. All (λ name. IsName name.now) names.items) }
     ensures said { IfOk result (λ names. HasNames key.now names.items (table_view table.now)) }
     ensures err { IfErr result IsNoText }
-    ensures refused { IfErr result (NoneIs (λ (texts : List (List ℕ)). HasTexts key.now texts (table_view table.now) × AllByRecursion IsName texts)) }
+    ensures refused { IfErr result (NoneIs (λ (texts : List (List ℕ)). HasTexts key.now texts
+        (table_view table.now)
+        × AllByRecursion IsName texts)) }
 {
     let names = texts_at(alloc, table, key)?;
     if are_names(names.as_slice()) {
@@ -162,9 +176,11 @@ fn are_names(texts: &[&str]) -> bool
 
 /// The resources of the array at a key, by their names.
 pub fn resources_at(alloc: Global, table: &Table, key: &str) -> Result<Vec<Res>, PlaceFault>
-    ensures ok { IfOk result (λ resources. HasResources key.now resources.items (table_view table.now)) }
+    ensures ok { IfOk result (λ resources. HasResources key.now resources.items (table_view
+        table.now)) }
     ensures err { IfErr result IsNoText }
-    ensures refused { IfErr result (NoneIs (λ (resources : List ResValue). HasResources key.now resources (table_view table.now))) }
+    ensures refused { IfErr result (NoneIs (λ (resources : List ResValue). HasResources key.now
+        resources (table_view table.now))) }
 {
     let mut resources = Vec::new(alloc);
     for name in texts_at(alloc, table, key)? {
@@ -177,7 +193,8 @@ pub fn resources_at(alloc: Global, table: &Table, key: &str) -> Result<Vec<Res>,
 pub fn events_at(alloc: Global, table: &Table, key: &str) -> Result<Vec<Event>, PlaceFault>
     ensures ok { IfOk result (λ events. HasEvents key.now events.items (table_view table.now)) }
     ensures err { IfErr result IsNoText }
-    ensures refused { IfErr result (NoneIs (λ (events : List EventValue). HasEvents key.now events (table_view table.now))) }
+    ensures refused { IfErr result (NoneIs (λ (events : List EventValue). HasEvents key.now events
+        (table_view table.now))) }
 {
     let mut events = Vec::new(alloc);
     for name in texts_at(alloc, table, key)? {
@@ -191,7 +208,9 @@ pub fn name_at<'a>(table: &'a Table, key: &str) -> Result<&'a str, PlaceFault>
     ensures name { IfOk result (λ name. IsName name.now) }
     ensures said { IfOk result (λ name. HasText key.now name.now (table_view table.now)) }
     ensures err { IfErr result (λ fault. fault ≡ PlaceFault.Value) }
-    ensures refused { IfErr result (NoneIs (λ (text : List ℕ). HasText key.now text (table_view table.now) × IsName text)) }
+    ensures refused { IfErr result (NoneIs (λ (text : List ℕ). HasText key.now text (table_view
+        table.now)
+        × IsName text)) }
 {
     let name = match value_at(table, key) {
         Some(value) => text_of(value)?,
@@ -208,7 +227,8 @@ pub fn name_at<'a>(table: &'a Table, key: &str) -> Result<&'a str, PlaceFault>
 pub fn integers_of(alloc: Global, value: &Value) -> Result<Vec<i64>, PlaceFault>
     ensures ok { IfOk result (λ integers. AreIntegers integers.items (view value.now)) }
     ensures err { IfErr result IsNoText }
-    ensures refused { IfErr result (NoneIs (λ (integers : List ℤ). AreIntegers integers (view value.now))) }
+    ensures refused { IfErr result (NoneIs (λ (integers : List ℤ). AreIntegers integers (view
+        value.now))) }
 {
     let mut integers = Vec::new(alloc);
     for item in array_of(value)? {
@@ -221,7 +241,8 @@ pub fn integers_of(alloc: Global, value: &Value) -> Result<Vec<i64>, PlaceFault>
 fn array_of(value: &Value) -> Result<&[Value], PlaceFault>
     ensures ok { IfOk result (λ items. view value.now ≡ array (items_of (map view items.now))) }
     ensures err { IfErr result (λ fault. fault ≡ PlaceFault.Value) }
-    ensures refused { IfErr result (NoneIs (λ (values : List Data). view value.now ≡ array (items_of values))) }
+    ensures refused { IfErr result (NoneIs (λ (values : List Data). view value.now
+        ≡ array (items_of values))) }
 {
     match value.as_array() {
         Some(items) => Ok(items.as_slice()),
@@ -242,7 +263,8 @@ fn integer_of(value: &Value) -> Result<i64, PlaceFault>
 pub fn integer_at(table: &Table, key: &str) -> Result<i64, PlaceFault>
     ensures ok { IfOk result (λ n. HasInteger key.now n (table_view table.now)) }
     ensures err { IfErr result (λ fault. fault ≡ PlaceFault.Value) }
-    ensures refused { IfErr result (NoneIs (λ (n : ℤ). HasInteger key.now n (table_view table.now))) }
+    ensures refused { IfErr result (NoneIs (λ (n : ℤ). HasInteger key.now n (table_view
+        table.now))) }
 {
     match value_at(table, key) {
         None => Ok(0),
@@ -254,7 +276,8 @@ pub fn integer_at(table: &Table, key: &str) -> Result<i64, PlaceFault>
 pub fn flag_at(table: &Table, key: &str) -> Result<bool, PlaceFault>
     ensures ok { IfOk result (λ flag. HasFlag key.now flag (table_view table.now)) }
     ensures err { IfErr result (λ fault. fault ≡ PlaceFault.Value) }
-    ensures refused { IfErr result (NoneIs (λ (flag : Bool). HasFlag key.now flag (table_view table.now))) }
+    ensures refused { IfErr result (NoneIs (λ (flag : Bool). HasFlag key.now flag (table_view
+        table.now))) }
 {
     match value_at(table, key) {
         None => Ok(false),
@@ -272,7 +295,8 @@ pub fn number_of(value: &Value) -> Option<u32>
 /// The number of 32 bits at a key, if there is a value. Another value there is `Value`.
 pub fn number_at(table: &Table, key: &str) -> Result<Option<u32>, PlaceFault>
     ensures ok { IfOk result (λ number. HasNumber key.now number (table_view table.now)) }
-    ensures refused { IfErr result (λ fault. (fault ≡ PlaceFault.Value) × ((number : Option ℕ) → HasNumber key.now number (table_view table.now) → ⊥)) }
+    ensures refused { IfErr result (λ fault. (fault ≡ PlaceFault.Value)
+        × ((number : Option ℕ) → HasNumber key.now number (table_view table.now) → ⊥)) }
 {
     match value_at(table, key) {
         None => Ok(None),

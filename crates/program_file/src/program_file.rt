@@ -177,11 +177,15 @@ impl<'a> ProgramFile<'a> {
     /// each chain. A fault is reported with its place.
     pub fn read(alloc: Global, document: &'a Table) -> Result<ProgramFile<'a>, FileFault>
         ensures keys { IfOk result (λ _. HasOnly keys_of_document (table_view document.now)) }
-        ensures resources { IfOk result (λ file. AreResourcesIn (table_view document.now) file.resources) }
-        ensures entities { IfOk result (λ file. AreEntitiesIn (table_view document.now) file.entities.items) }
+        ensures resources { IfOk result (λ file. AreResourcesIn (table_view document.now)
+            file.resources) }
+        ensures entities { IfOk result (λ file. AreEntitiesIn (table_view document.now)
+            file.entities.items) }
         ensures sets { IfOk result (λ file. AreSetsIn (table_view document.now) file.sets.items) }
-        ensures systems { IfOk result (λ file. AreSystemsIn (table_view document.now) file.systems.items) }
-        ensures chains { IfOk result (λ file. AreChainsIn (table_view document.now) file.chains.items) }
+        ensures systems { IfOk result (λ file. AreSystemsIn (table_view document.now)
+            file.systems.items) }
+        ensures chains { IfOk result (λ file. AreChainsIn (table_view document.now)
+            file.chains.items) }
         ensures err { IfErr result IsOfPlace }
         ensures fault { IfErr result (IsFaultOf (table_view document.now)) }
     {
@@ -203,9 +207,12 @@ impl<'a> ProgramFile<'a> {
 
 // The components of each entity.
 fn entities_of(alloc: Global, tables: &[&Table]) -> Result<Vec<Vec<Value>>, FileFault>
-    ensures ok { IfOk result (λ entities. AllZip (λ table components. IsEntityIn (table_view table.now) components.items) tables.now entities.items) }
+    ensures ok { IfOk result (λ entities. AllZip
+        (λ table components. IsEntityIn (table_view table.now) components.items) tables.now
+        entities.items) }
     ensures err { IfErr result IsOfPlace }
-    ensures fault { IfErr result (IsListFault (λ number. Place.Entity number) HasEntity IsEntityIn (map (λ inner. table_view inner.now) tables.now)) }
+    ensures fault { IfErr result (IsListFault (λ number. Place.Entity number) HasEntity IsEntityIn
+        (map (λ inner. table_view inner.now) tables.now)) }
 {
     let mut entities = Vec::new(alloc);
     for (number, table) in tables.iter().enumerate() {
@@ -217,9 +224,11 @@ fn entities_of(alloc: Global, tables: &[&Table]) -> Result<Vec<Vec<Value>>, File
 
 // The sets.
 fn sets_of<'a>(alloc: Global, tables: &[&'a Table]) -> Result<Vec<ItemTable<'a>>, FileFault>
-    ensures ok { IfOk result (λ sets. AllZip (λ table set. IsSetIn (table_view table.now) set) tables.now sets.items) }
+    ensures ok { IfOk result (λ sets. AllZip (λ table set. IsSetIn (table_view table.now) set)
+        tables.now sets.items) }
     ensures err { IfErr result IsOfPlace }
-    ensures fault { IfErr result (IsListFault (λ number. Place.Set number) HasSetKeys IsSetIn (map (λ inner. table_view inner.now) tables.now)) }
+    ensures fault { IfErr result (IsListFault (λ number. Place.Set number) HasSetKeys IsSetIn
+        (map (λ inner. table_view inner.now) tables.now)) }
 {
     let mut sets = Vec::new(alloc);
     for (number, table) in tables.iter().enumerate() {
@@ -231,9 +240,11 @@ fn sets_of<'a>(alloc: Global, tables: &[&'a Table]) -> Result<Vec<ItemTable<'a>>
 
 // The systems.
 fn systems_of<'a>(alloc: Global, tables: &[&'a Table]) -> Result<Vec<SystemTable<'a>>, FileFault>
-    ensures ok { IfOk result (λ systems. AllZip (λ table system. IsSystemIn (table_view table.now) system) tables.now systems.items) }
+    ensures ok { IfOk result (λ systems. AllZip
+        (λ table system. IsSystemIn (table_view table.now) system) tables.now systems.items) }
     ensures err { IfErr result IsOfPlace }
-    ensures fault { IfErr result (IsListFault (λ number. Place.System number) HasSystemKeys IsSystemIn (map (λ inner. table_view inner.now) tables.now)) }
+    ensures fault { IfErr result (IsListFault (λ number. Place.System number) HasSystemKeys
+        IsSystemIn (map (λ inner. table_view inner.now) tables.now)) }
 {
     let mut systems = Vec::new(alloc);
     for (number, table) in tables.iter().enumerate() {
@@ -247,9 +258,11 @@ fn systems_of<'a>(alloc: Global, tables: &[&'a Table]) -> Result<Vec<SystemTable
 
 // The chains.
 fn chains_of<'a>(alloc: Global, tables: &[&'a Table]) -> Result<Vec<ChainTable<'a>>, FileFault>
-    ensures ok { IfOk result (λ chains. AllZip (λ table chain. IsChainIn (table_view table.now) chain) tables.now chains.items) }
+    ensures ok { IfOk result (λ chains. AllZip
+        (λ table chain. IsChainIn (table_view table.now) chain) tables.now chains.items) }
     ensures err { IfErr result IsOfPlace }
-    ensures fault { IfErr result (IsListFault (λ number. Place.Chain number) HasChain IsChainIn (map (λ inner. table_view inner.now) tables.now)) }
+    ensures fault { IfErr result (IsListFault (λ number. Place.Chain number) HasChain IsChainIn
+        (map (λ inner. table_view inner.now) tables.now)) }
 {
     let mut chains = Vec::new(alloc);
     for (number, table) in tables.iter().enumerate() {
@@ -262,7 +275,8 @@ fn chains_of<'a>(alloc: Global, tables: &[&'a Table]) -> Result<Vec<ChainTable<'
 // Reads the table of a set.
 fn set_of<'a>(alloc: Global, table: &'a Table) -> Result<ItemTable<'a>, PlaceFault>
     ensures ok { IfOk result (IsSetIn (table_view table.now)) }
-    ensures wrong { IfErr result (IsWrong (HasSetKeys (table_view table.now)) (HasSet (table_view table.now))) }
+    ensures wrong { IfErr result (IsWrong (HasSetKeys (table_view table.now)) (HasSet (table_view
+        table.now))) }
 {
     refuse_unknown(table, SET_KEYS.as_slice())?;
     ItemTable::read(alloc, table)
@@ -276,7 +290,8 @@ impl<'a> ItemTable<'a> {
         ensures before { IfOk result (λ item. All (λ name. IsName name.now) item.before.items) }
         ensures after { IfOk result (λ item. All (λ name. IsName name.now) item.after.items) }
         ensures said { IfOk result (IsItemIn (table_view table.now)) }
-        ensures wrong { IfErr result (IsWrong (HasItemKeys (table_view table.now)) (HasItem (table_view table.now))) }
+        ensures wrong { IfErr result (IsWrong (HasItemKeys (table_view table.now)) (HasItem
+            (table_view table.now))) }
     {
         read_item(alloc, ItemTexts::read(alloc, table)?)
     }
@@ -305,7 +320,8 @@ impl<'a> ItemTexts<'a> {
 fn read_item<'a>(alloc: Global, texts: ItemTexts<'a>) -> Result<ItemTable<'a>, PlaceFault>
     ensures ok { IfOk result (IsItemRead texts.entry) }
     ensures only { IfErr result IsNoValue }
-    ensures refused { IfErr result (NoneIs (λ conditions. AreSpelled IsCondition conditions (map (λ text. text.now) texts.entry.conditions.items))) }
+    ensures refused { IfErr result (NoneIs (λ conditions. AreSpelled IsCondition conditions
+        (map (λ text. text.now) texts.entry.conditions.items))) }
 {
     let conditions = conditions_of(alloc, texts.conditions.as_slice())?;
     Ok(ItemTable {
@@ -341,11 +357,15 @@ impl<'a> SystemTable<'a> {
     /// Reads the table of a system: all its keys, then its texts.
     pub fn read(alloc: Global, table: &'a Table) -> Result<SystemTable<'a>, PlaceFault>
         ensures named { IfOk result (λ system. IsName system.item.name.now) }
-        ensures inside { IfOk result (λ system. All (λ name. IsName name.now) system.item.inside.items) }
-        ensures before { IfOk result (λ system. All (λ name. IsName name.now) system.item.before.items) }
-        ensures after { IfOk result (λ system. All (λ name. IsName name.now) system.item.after.items) }
+        ensures inside { IfOk result (λ system. All (λ name. IsName name.now)
+            system.item.inside.items) }
+        ensures before { IfOk result (λ system. All (λ name. IsName name.now)
+            system.item.before.items) }
+        ensures after { IfOk result (λ system. All (λ name. IsName name.now)
+            system.item.after.items) }
         ensures said { IfOk result (IsSystemIn (table_view table.now)) }
-        ensures wrong { IfErr result (IsWrong (HasSystemKeys (table_view table.now)) (HasSystem (table_view table.now))) }
+        ensures wrong { IfErr result (IsWrong (HasSystemKeys (table_view table.now)) (HasSystem
+            (table_view table.now))) }
     {
         read_system(alloc, SystemTexts::read(alloc, table)?)
     }
@@ -430,11 +450,17 @@ struct Top<'a> {
 impl<'a> Top<'a> {
     fn read(alloc: Global, document: &'a Table) -> Result<Top<'a>, PlaceFault>
         ensures keys { IfOk result (λ _. HasOnly keys_of_document (table_view document.now)) }
-        ensures resources { IfOk result (λ top. HasTable (codes "resources") (lent_members top.resources) (table_view document.now)) }
-        ensures entities { IfOk result (λ top. HasTables (codes "entity") (map (λ inner. table_view inner.now) top.entities.items) (table_view document.now)) }
-        ensures sets { IfOk result (λ top. HasTables (codes "set") (map (λ inner. table_view inner.now) top.sets.items) (table_view document.now)) }
-        ensures systems { IfOk result (λ top. HasTables (codes "system") (map (λ inner. table_view inner.now) top.systems.items) (table_view document.now)) }
-        ensures chains { IfOk result (λ top. HasTables (codes "chain") (map (λ inner. table_view inner.now) top.chains.items) (table_view document.now)) }
+        ensures resources { IfOk result (λ top. HasTable (codes "resources")
+            (lent_members top.resources) (table_view document.now)) }
+        ensures entities { IfOk result (λ top. HasTables (codes "entity")
+            (map (λ inner. table_view inner.now) top.entities.items) (table_view
+            document.now)) }
+        ensures sets { IfOk result (λ top. HasTables (codes "set")
+            (map (λ inner. table_view inner.now) top.sets.items) (table_view document.now)) }
+        ensures systems { IfOk result (λ top. HasTables (codes "system")
+            (map (λ inner. table_view inner.now) top.systems.items) (table_view document.now)) }
+        ensures chains { IfOk result (λ top. HasTables (codes "chain")
+            (map (λ inner. table_view inner.now) top.chains.items) (table_view document.now)) }
         ensures unkeyed { IfErr result (IsUnkeyed (HasTop (table_view document.now))) }
     {
         refuse_unknown(document, TOP_KEYS.as_slice())?;

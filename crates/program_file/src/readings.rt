@@ -19,11 +19,14 @@ use std::alloc::Global;
 
 /// The queries that texts spell, in order. `Text` is for one that spells none.
 pub fn queries_of(alloc: Global, texts: &[&str]) -> Result<Vec<Query>, PlaceFault>
-    ensures ok { IfOk result (λ queries. AreSpelled IsQuery queries.items (map (λ text. text.now) texts.now)) }
+    ensures ok { IfOk result (λ queries. AreSpelled IsQuery queries.items (map (λ text. text.now)
+        texts.now)) }
     ensures count { IfOk result (λ queries. vec_len queries ≡ length texts.now) }
-    ensures outside { IsErrOf result PlaceFault.Text → Any (λ text. SpellsNone IsQuery text.now) texts.now }
+    ensures outside { IsErrOf result PlaceFault.Text
+        → Any (λ text. SpellsNone IsQuery text.now) texts.now }
     ensures only { IfErr result IsNoValue }
-    ensures refused { IfErr result (NoneIs (λ (queries : List QueryValue). AreSpelled IsQuery queries (map (λ text. text.now) texts.now))) }
+    ensures refused { IfErr result (NoneIs (λ (queries : List QueryValue). AreSpelled IsQuery
+        queries (map (λ text. text.now) texts.now))) }
 {
     let mut queries = Vec::new(alloc);
     for text in texts {
@@ -34,10 +37,13 @@ pub fn queries_of(alloc: Global, texts: &[&str]) -> Result<Vec<Query>, PlaceFaul
 
 /// The conditions that texts spell, in order. `Text` is for one that spells none.
 pub fn conditions_of(alloc: Global, texts: &[&str]) -> Result<Vec<Cond>, PlaceFault>
-    ensures ok { IfOk result (λ conditions. AreSpelled IsCondition conditions.items (map (λ text. text.now) texts.now)) }
-    ensures outside { IsErrOf result PlaceFault.Text → Any (λ text. SpellsNone IsCondition text.now) texts.now }
+    ensures ok { IfOk result (λ conditions. AreSpelled IsCondition conditions.items (map
+        (λ text. text.now) texts.now)) }
+    ensures outside { IsErrOf result PlaceFault.Text
+        → Any (λ text. SpellsNone IsCondition text.now) texts.now }
     ensures only { IfErr result IsNoValue }
-    ensures refused { IfErr result (NoneIs (λ (conditions : List CondValue). AreSpelled IsCondition conditions (map (λ text. text.now) texts.now))) }
+    ensures refused { IfErr result (NoneIs (λ (conditions : List CondValue). AreSpelled IsCondition
+        conditions (map (λ text. text.now) texts.now))) }
 {
     let mut conditions = Vec::new(alloc);
     for text in texts {
@@ -48,10 +54,13 @@ pub fn conditions_of(alloc: Global, texts: &[&str]) -> Result<Vec<Cond>, PlaceFa
 
 /// The instructions that texts spell, in order. `Text` is for one that spells none.
 pub fn instructions_of(alloc: Global, texts: &[&str]) -> Result<Vec<Instruction>, PlaceFault>
-    ensures ok { IfOk result (λ code. AreSpelled IsInstruction code.items (map (λ text. text.now) texts.now)) }
-    ensures outside { IsErrOf result PlaceFault.Text → Any (λ text. SpellsNone IsInstruction text.now) texts.now }
+    ensures ok { IfOk result (λ code. AreSpelled IsInstruction code.items (map (λ text. text.now)
+        texts.now)) }
+    ensures outside { IsErrOf result PlaceFault.Text
+        → Any (λ text. SpellsNone IsInstruction text.now) texts.now }
     ensures only { IfErr result IsNoValue }
-    ensures refused { IfErr result (NoneIs (λ (code : List InstructionValue). AreSpelled IsInstruction code (map (λ text. text.now) texts.now))) }
+    ensures refused { IfErr result (NoneIs (λ (code : List InstructionValue). AreSpelled
+        IsInstruction code (map (λ text. text.now) texts.now))) }
 {
     let mut code = Vec::new(alloc);
     for text in texts {

@@ -15,7 +15,8 @@ use toml::{Table, Value};
 /// both keys, or with another value at one of them, is `Value`.
 pub fn rounds_of(block: &Table) -> Result<Rounds, PlaceFault>
     ensures said { IfOk result (SpellsOnly SaysRounds (block_keys (table_view block.now))) }
-    ensures refused { IfErr result (λ fault. (fault ≡ PlaceFault.Value) × SpellsNone SaysRounds (block_keys (table_view block.now))) }
+    ensures refused { IfErr result (λ fault. (fault ≡ PlaceFault.Value)
+        × SpellsNone SaysRounds (block_keys (table_view block.now))) }
 {
     match rounds_by(value_at(block, "each"), value_at(block, "events")) {
         Some(rounds) => Ok(rounds),
@@ -25,7 +26,12 @@ pub fn rounds_of(block: &Table) -> Result<Rounds, PlaceFault>
 
 // How often a block runs that has these values at `each` and at `events`.
 fn rounds_by(each: Option<&Value>, events: Option<&Value>) -> Option<Rounds>
-    ensures { Reads SaysRounds (record { each = option_map (λ value. view value.now) each.entry; events = option_map (λ value. view value.now) events.entry }) result }
+    ensures { Reads SaysRounds
+        (record {
+          each = option_map (λ value. view value.now) each.entry;
+          events = option_map (λ value. view value.now) events.entry;
+        })
+        result }
 {
     match (each, events) {
         (None, None) => Some(Rounds::Once),

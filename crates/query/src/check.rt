@@ -60,7 +60,9 @@ impl Error for BadQuery {}
 impl Query {
     /// Whether nothing is wrong with the query, and else the least fault that holds.
     pub fn check(&self) -> Result<(), BadQuery>
-        ensures { MatchResult result (λ _. query_fault self.now ≡ None) (λ fault. query_fault self.now ≡ Some (fault_number fault)) }
+        ensures { MatchResult result (λ _. query_fault self.now ≡ None) (λ fault. query_fault
+            self.now
+            ≡ Some (fault_number fault)) }
     {
         let terms = self.terms();
         if requires_excluded(terms) {
@@ -89,7 +91,8 @@ fn requires_excluded(terms: &[Term]) -> bool
 
 // Whether the terms require and exclude one of the kinds.
 fn any_required_excluded(kinds: &[Kind], terms: &[Term]) -> bool
-    ensures { result ≡ list_any (λ kind. names_excluded required terms.now (kind_number kind)) kinds.now }
+    ensures { result
+        ≡ list_any (λ kind. names_excluded required terms.now (kind_number kind)) kinds.now }
 {
     kinds.iter().any(|kind| is_required_excluded(*kind, terms))
 }
@@ -143,7 +146,8 @@ fn opts_excluded(terms: &[Term]) -> bool
 
 // Whether the terms have an `opt` term of one of the kinds and exclude it.
 fn any_opt_excluded(kinds: &[Kind], terms: &[Term]) -> bool
-    ensures { result ≡ list_any (λ kind. names_excluded optional terms.now (kind_number kind)) kinds.now }
+    ensures { result
+        ≡ list_any (λ kind. names_excluded optional terms.now (kind_number kind)) kinds.now }
 {
     kinds.iter().any(|kind| is_opt_excluded(*kind, terms))
 }

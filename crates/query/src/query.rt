@@ -98,14 +98,16 @@ impl Query {
 
 // Whether some of the terms touches the kind.
 fn any_touches(terms: &[Term], kind: Kind) -> bool
-    ensures { result ≡ list_any (λ t. is_number (kind_number kind) (touched (term_of t))) terms.now }
+    ensures { result
+        ≡ list_any (λ t. is_number (kind_number kind) (touched (term_of t))) terms.now }
 {
     terms.iter().any(|term| term.touches(kind))
 }
 
 // Whether some of the terms writes the kind.
 fn any_writes(terms: &[Term], kind: Kind) -> bool
-    ensures { result ≡ list_any (λ t. is_number (kind_number kind) (written (term_of t))) terms.now }
+    ensures { result
+        ≡ list_any (λ t. is_number (kind_number kind) (written (term_of t))) terms.now }
 {
     terms.iter().any(|term| term.writes(kind))
 }
@@ -119,7 +121,8 @@ fn any_filter(terms: &[Term]) -> bool
 
 // Whether some of the terms requires the kind.
 pub(crate) fn any_requires(terms: &[Term], kind: Kind) -> bool
-    ensures { result ≡ list_any (λ t. is_number (kind_number kind) (required (term_of t))) terms.now }
+    ensures { result
+        ≡ list_any (λ t. is_number (kind_number kind) (required (term_of t))) terms.now }
 {
     terms.iter().any(|term| term.requires_kind(kind))
 }

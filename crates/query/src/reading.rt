@@ -57,7 +57,8 @@ impl Term {
 
     // The term that a word makes of alternatives, of which the first is these two words.
     fn of_or(word: &str, first: &str, name: &str, more: &[&str]) -> Option<Term>
-        ensures { Reads AreTerm (word.now ∷ first.now ∷ name.now ∷ map (λ word. word.now) more.now) result }
+        ensures { Reads AreTerm (word.now ∷ first.now ∷ name.now ∷ map (λ word. word.now) more.now)
+            result }
     {
         match word {
             "or" => Some(Term::Or(Alternatives::of_words(first, name, more)?)),
@@ -86,7 +87,8 @@ impl Term {
 impl Alternatives {
     // The alternatives that the words are, of which the first two are these.
     fn of_words(u: &str, k: &str, more: &[&str]) -> Option<Alternatives>
-        ensures { Reads (λ alternatives. AreTerm (Or alternatives)) (codes "or" ∷ u.now ∷ k.now ∷ map (λ word. word.now) more.now) result }
+        ensures { Reads (λ alternatives. AreTerm (Or alternatives))
+            (codes "or" ∷ u.now ∷ k.now ∷ map (λ word. word.now) more.now) result }
     {
         match more {
             [v, l] => Alternatives::of_two(u, k, v, l),
@@ -105,7 +107,10 @@ impl Alternatives {
         m: &str,
         more: &[&str],
     ) -> Option<Alternatives>
-        ensures { Reads (λ alternatives. AreTerm (Or alternatives)) (codes "or" ∷ u.now ∷ k.now ∷ v.now ∷ l.now ∷ w.now ∷ m.now ∷ map (λ word. word.now) more.now) result }
+        ensures { Reads (λ alternatives. AreTerm (Or alternatives))
+            (codes "or" ∷ u.now ∷ k.now ∷ v.now ∷ l.now ∷ w.now ∷ m.now
+            ∷ map (λ word. word.now) more.now)
+            result }
     {
         match more {
             [] => Alternatives::of_three(u, k, v, l, w, m),
@@ -116,14 +121,16 @@ impl Alternatives {
 
     // The two alternatives that the words are.
     fn of_two(u: &str, k: &str, v: &str, l: &str) -> Option<Alternatives>
-        ensures { Reads (λ alternatives. AreTerm (Or alternatives)) (codes "or" ∷ u.now ∷ k.now ∷ v.now ∷ l.now ∷ []) result }
+        ensures { Reads (λ alternatives. AreTerm (Or alternatives))
+            (codes "or" ∷ u.now ∷ k.now ∷ v.now ∷ l.now ∷ []) result }
     {
         Some(Alternatives::Two([Alternative::of_words(u, k)?, Alternative::of_words(v, l)?]))
     }
 
     // The three alternatives that the words are.
     fn of_three(u: &str, k: &str, v: &str, l: &str, w: &str, m: &str) -> Option<Alternatives>
-        ensures { Reads (λ alternatives. AreTerm (Or alternatives)) (codes "or" ∷ u.now ∷ k.now ∷ v.now ∷ l.now ∷ w.now ∷ m.now ∷ []) result }
+        ensures { Reads (λ alternatives. AreTerm (Or alternatives))
+            (codes "or" ∷ u.now ∷ k.now ∷ v.now ∷ l.now ∷ w.now ∷ m.now ∷ []) result }
     {
         Some(Alternatives::Three([
             Alternative::of_words(u, k)?,
@@ -143,7 +150,9 @@ impl Alternatives {
         x: &str,
         n: &str,
     ) -> Option<Alternatives>
-        ensures { Reads (λ alternatives. AreTerm (Or alternatives)) (codes "or" ∷ u.now ∷ k.now ∷ v.now ∷ l.now ∷ w.now ∷ m.now ∷ x.now ∷ n.now ∷ []) result }
+        ensures { Reads (λ alternatives. AreTerm (Or alternatives))
+            (codes "or" ∷ u.now ∷ k.now ∷ v.now ∷ l.now ∷ w.now ∷ m.now ∷ x.now ∷ n.now ∷ [])
+            result }
     {
         Some(Alternatives::Four([
             Alternative::of_words(u, k)?,
@@ -194,7 +203,8 @@ impl Query {
 
     // The query of which each part is a term.
     fn of_parts(alloc: Global, parts: &[&str]) -> Result<Query, ReadError>
-        ensures { ReadsUnlessMemory (AllZip (SpellsSeen term_of IsTerm)) (map (λ part. part.now) parts.now) result }
+        ensures { ReadsUnlessMemory (AllZip (SpellsSeen term_of IsTerm))
+            (map (λ part. part.now) parts.now) result }
     {
         let mut query = Query::new(alloc);
         for part in parts {

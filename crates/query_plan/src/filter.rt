@@ -54,7 +54,8 @@ impl<'a> Filters<'a> {
 
     // The same with one more at the end.
     fn with(self, alloc: Global, filter: Filter<'a>) -> Result<Self, AllocError>
-        ensures { IfOk result (λ filters. filters_in filters ≡ filters_in self.entry ++ filter.entry ∷ []) }
+        ensures { IfOk result (λ filters. filters_in filters
+            ≡ filters_in self.entry ++ filter.entry ∷ []) }
     {
         match self {
             Filters::Without => Ok(Filters::One(filter)),
@@ -81,8 +82,11 @@ pub(crate) fn filters_of<'w>(
     world: &'w World,
     archetype: usize,
 ) -> Result<Filters<'w>, AllocError>
-    requires { AllByRecursion (λ term. IsFilterHome (archetype_at world.now.layout archetype) (term_of term)) terms.now }
-    ensures { IfOk result (λ filters. AreFiltersOf world.now.state.slots (archetype_at world.now.layout archetype).entities (map term_of terms.now) (filters_in filters)) }
+    requires { AllByRecursion
+        (λ term. IsFilterHome (archetype_at world.now.layout archetype) (term_of term)) terms.now }
+    ensures { IfOk result (λ filters. AreFiltersOf world.now.state.slots
+        (archetype_at world.now.layout archetype).entities (map term_of terms.now) (filters_in
+        filters)) }
 {
     let mut filters = Filters::Without;
     for term in terms {
@@ -97,8 +101,10 @@ pub(crate) fn filters_of<'w>(
 // The filter of a term, where it is one.
 fn filter_of(term: Term, world: &World, archetype: usize) -> Option<Filter<'_>>
     requires { IsFilterHome (archetype_at world.now.layout archetype) (term_of term) }
-    ensures some { IfSome result (IsFilterOf world.now.state.slots (archetype_at world.now.layout archetype).entities (term_of term)) }
-    ensures none { IfNone result ((last : ℕ) (row : List Component) → input.passes last row (term_of term) ≡ true) }
+    ensures some { IfSome result (IsFilterOf world.now.state.slots
+        (archetype_at world.now.layout archetype).entities (term_of term)) }
+    ensures none { IfNone result ((last : ℕ) (row : List Component)
+        → input.passes last row (term_of term) ≡ true) }
 {
     match term {
         Term::Added(kind) => Some(Filter {
@@ -116,7 +122,9 @@ fn filter_of(term: Term, world: &World, archetype: usize) -> Option<Filter<'_>>
 // Whether the components at a place pass these filters.
 pub(crate) fn passes_all(filters: &[Filter<'_>], place: usize, last_run: u64) -> bool
     requires { AllByRecursion (λ f. place < length f.column.now.cells) filters.now }
-    ensures { result ≡ list_all (λ f. is_newer last_run f.is_added (slice_get f.column.now.cells place)) filters.now }
+    ensures { result
+        ≡ list_all (λ f. is_newer last_run f.is_added (slice_get f.column.now.cells place))
+        filters.now }
 {
     for filter in filters {
         if !passes(filter.column, filter.is_added, place, last_run) {

@@ -37,8 +37,12 @@ pub(crate) fn walked(
     room: &mut RowBuffers,
 ) -> Result<Option<Vec<Row>>, AllocError>
     requires { AreCandidates query.now world.now.layout archetypes.now }
-    ensures rows { IfOk result (λ found. IfSome found (λ rows. (last : ℕ) → map (λ row. row.entity) rows.items ≡ map (λ row. row.entity) (input.rows_of query.now last world.now.state.slots))) }
-    ensures places { IfOk result (λ found. IfSome found (λ rows. AllByRecursion (IsStanding world.now.state.slots world.now.layout) rows.items)) }
+    ensures rows { IfOk result (λ found. IfSome found (λ rows. (last : ℕ)
+        → map (λ row. row.entity) rows.items
+        ≡ map (λ row. row.entity) (input.rows_of query.now last
+        world.now.state.slots))) }
+    ensures places { IfOk result (λ found. IfSome found (λ rows. AllByRecursion
+        (IsStanding world.now.state.slots world.now.layout) rows.items)) }
 {
     if archetypes.len() < 2 {
         return Ok(None);
@@ -89,8 +93,12 @@ fn walked_by(
 ) -> Result<Option<Vec<Row>>, AllocError>
     requires among { AreCandidates query.now world.now.layout archetypes.now }
     requires free { list_any term_asks_stamps query.now ≡ false }
-    ensures rows { IfOk result (λ found. IfSome found (λ rows. (last : ℕ) → map (λ row. row.entity) rows.items ≡ map (λ row. row.entity) (input.rows_of query.now last world.now.state.slots))) }
-    ensures places { IfOk result (λ found. IfSome found (λ rows. AllByRecursion (IsStanding world.now.state.slots world.now.layout) rows.items)) }
+    ensures rows { IfOk result (λ found. IfSome found (λ rows. (last : ℕ)
+        → map (λ row. row.entity) rows.items
+        ≡ map (λ row. row.entity) (input.rows_of query.now last
+        world.now.state.slots))) }
+    ensures places { IfOk result (λ found. IfSome found (λ rows. AllByRecursion
+        (IsStanding world.now.state.slots world.now.layout) rows.items)) }
 {
     let matched = mark(query, world, archetypes, marks)?;
     let takes_bare = matches_kinds(query, &[]);
@@ -117,7 +125,8 @@ fn mark(
     marks: &mut Vec<bool>,
 ) -> Result<Matched, AllocError>
     requires { AllByRecursion (λ n. n < length world.now.layout) archetypes.now }
-    ensures { OnOk result (AreMarksAmong query.now world.now.layout archetypes.now marks.new.items) }
+    ensures { OnOk result (AreMarksAmong query.now world.now.layout archetypes.now
+        marks.new.items) }
 {
     marks.clear();
     marks.resize(world.archetype_count(), false)?;
@@ -160,8 +169,11 @@ fn walk(
     requires marks { AreMarks query.now world.now.layout marks.now }
     requires free { list_any term_asks_stamps query.now ≡ false }
     requires bare { takes_bare ≡ matches query.now (λ kind. false) }
-    ensures rows { IfOk result (λ rows. (last : ℕ) → map (λ row. row.entity) rows.items ≡ map (λ row. row.entity) (input.rows_of query.now last world.now.state.slots)) }
-    ensures places { IfOk result (λ rows. AllByRecursion (IsStanding world.now.state.slots world.now.layout) rows.items) }
+    ensures rows { IfOk result (λ rows. (last : ℕ)
+        → map (λ row. row.entity) rows.items
+        ≡ map (λ row. row.entity) (input.rows_of query.now last world.now.state.slots)) }
+    ensures places { IfOk result (λ rows. AllByRecursion
+        (IsStanding world.now.state.slots world.now.layout) rows.items) }
 {
     // Tells who is in an archetype.
     world.prove_laid();
@@ -193,8 +205,10 @@ fn row_at(
     requires free { list_any term_asks_stamps _query.now ≡ false }
     requires bare { takes_bare ≡ matches _query.now (λ kind. false) }
     requires count { count ≡ length world.now.layout }
-    ensures some { IfOk result (λ found. IfSome found (IsRowOf _query.now world.now.state.slots world.now.layout index)) }
-    ensures none { IfOk result (λ found. IfNone found ((last : ℕ) → is_row_at _query.now last world.now.state.slots index ≡ false)) }
+    ensures some { IfOk result (λ found. IfSome found (IsRowOf _query.now world.now.state.slots
+        world.now.layout index)) }
+    ensures none { IfOk result (λ found. IfNone found ((last : ℕ)
+        → is_row_at _query.now last world.now.state.slots index ≡ false)) }
 {
     let Some(at) = world.row_place(index) else {
         if !takes_bare {
@@ -221,7 +235,8 @@ fn bare_row_at(_query: &Query, world: &World, count: u32, index: u32) -> Option<
     requires none { is_there (components_at world.now.state.slots index) ≡ false }
     requires count { count ≡ length world.now.layout }
     ensures some { IfSome result (IsRowOf _query.now world.now.state.slots world.now.layout index) }
-    ensures none { IfNone result ((last : ℕ) → is_row_at _query.now last world.now.state.slots index ≡ false) }
+    ensures none { IfNone result ((last : ℕ)
+        → is_row_at _query.now last world.now.state.slots index ≡ false) }
 {
     let entity = world.bare_at(index)?;
     Some(Row {

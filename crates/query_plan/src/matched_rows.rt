@@ -73,7 +73,8 @@ fn all_listed(
     world: &World,
     room: &mut RowBuffers,
 ) -> Result<Vec<Row>, AllocError>
-    ensures { IfOk result (λ rows. rows.items ≡ every_row archetype 0 (archetype_at world.now.layout archetype).entities) }
+    ensures { IfOk result (λ rows. rows.items
+        ≡ every_row archetype 0 (archetype_at world.now.layout archetype).entities) }
 {
     if world.archetype_count() <= archetype as usize {
         return Ok(Vec::new(alloc));

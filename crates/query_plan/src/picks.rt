@@ -35,7 +35,8 @@ pub(crate) fn picks_in(
     room: Vec<Pick>,
 ) -> Result<Vec<Pick>, AllocError>
     requires { AllByRecursion (λ n. n < length world.now.layout) archetypes.now }
-    ensures { IfOk result (λ picks. map pick_seen picks.items ≡ picked_at query.now world.now.layout archetypes.now) }
+    ensures { IfOk result (λ picks. map pick_seen picks.items
+        ≡ picked_at query.now world.now.layout archetypes.now) }
 {
     let mut picks = room;
     picks.clear();
@@ -53,7 +54,9 @@ fn pick_of(
     archetype: usize,
     kinds: &[Kind],
 ) -> Result<(), AllocError>
-    ensures { OnOk result (map pick_seen picks.new.items ≡ map pick_seen picks.old.items ++ picked_of query.now archetype (map kind_number kinds.now)) }
+    ensures { OnOk result (map pick_seen picks.new.items
+        ≡ map pick_seen picks.old.items
+        ++ picked_of query.now archetype (map kind_number kinds.now)) }
 {
     if matches_kinds(query, kinds) {
         pick_in(picks, query, archetype, kinds)?;
@@ -68,7 +71,9 @@ fn pick_in(
     archetype: usize,
     kinds: &[Kind],
 ) -> Result<(), AllocError>
-    ensures { OnOk result (map pick_seen picks.new.items ≡ map pick_seen picks.old.items ++ picked_in query.now archetype (map kind_number kinds.now)) }
+    ensures { OnOk result (map pick_seen picks.new.items
+        ≡ map pick_seen picks.old.items
+        ++ picked_in query.now archetype (map kind_number kinds.now)) }
 {
     for kind in kinds {
         if !query.touches(*kind) {
@@ -93,7 +98,10 @@ pub(crate) fn matches_kinds(query: &Query, kinds: &[Kind]) -> bool
 
 // Whether each of the terms admits these kinds.
 fn admit_all(terms: &[Term], kinds: &[Kind]) -> bool
-    ensures { result ≡ list_all (λ term. term_admits (λ kind. has kind (map kind_number kinds.now)) (term_of term)) terms.now }
+    ensures { result
+        ≡ list_all
+        (λ term. term_admits (λ kind. has kind (map kind_number kinds.now)) (term_of term))
+        terms.now }
 {
     terms.iter().all(|term| admits(*term, kinds))
 }
@@ -113,14 +121,18 @@ fn admits(term: Term, kinds: &[Kind]) -> bool
 // Whether one of the alternatives holds of these kinds.
 #[tactic(auto, using(query::proofs::Terms::of_kinds))]
 fn any_holds(alternatives: &[Alternative], kinds: &[Kind]) -> bool
-    ensures { result ≡ list_any (holds_in (λ kind. has kind (map kind_number kinds.now))) (map alternative_of alternatives.now) }
+    ensures { result
+        ≡ list_any (holds_in (λ kind. has kind (map kind_number kinds.now))) (map alternative_of
+        alternatives.now) }
 {
     any_alternative(alternatives, kinds)
 }
 
 // Whether one of them does, alternative by alternative.
 fn any_alternative(alternatives: &[Alternative], kinds: &[Kind]) -> bool
-    ensures { result ≡ list_any (λ a. holds_in (λ kind. has kind (map kind_number kinds.now)) (alternative_of a)) alternatives.now }
+    ensures { result
+        ≡ list_any (λ a. holds_in (λ kind. has kind (map kind_number kinds.now)) (alternative_of a))
+        alternatives.now }
 {
     alternatives
         .iter()
@@ -129,7 +141,8 @@ fn any_alternative(alternatives: &[Alternative], kinds: &[Kind]) -> bool
 
 // Whether the alternative holds of these kinds.
 fn holds(alternative: Alternative, kinds: &[Kind]) -> bool
-    ensures { result ≡ holds_in (λ kind. has kind (map kind_number kinds.now)) (alternative_of alternative) }
+    ensures { result
+        ≡ holds_in (λ kind. has kind (map kind_number kinds.now)) (alternative_of alternative) }
 {
     match alternative {
         Alternative::With(kind) => is_among(kind, kinds),

@@ -32,12 +32,18 @@ pub fn plan(
     room: &mut RowBuffers,
 ) -> Result<Plan, AllocError>
     requires { ArePickedHome query.now world.now.layout }
-    ensures rows { IfOk result (λ plan. map (λ row. row.entity) (rows_of_places world.now.layout plan.rows) ≡ map (λ row. row.entity) (input.rows_of query.now last_run world.now.state.slots)) }
-    ensures places { IfOk result (λ plan. AllByRecursion (IsStanding world.now.state.slots world.now.layout) (rows_of_places world.now.layout plan.rows)) }
+    ensures rows { IfOk result (λ plan. map (λ row. row.entity) (rows_of_places world.now.layout
+        plan.rows)
+        ≡ map (λ row. row.entity) (input.rows_of query.now last_run world.now.state.slots)) }
+    ensures places { IfOk result (λ plan. AllByRecursion
+        (IsStanding world.now.state.slots world.now.layout) (rows_of_places world.now.layout
+        plan.rows)) }
     ensures counted { IfOk result (λ plan. IsCounted world.now.layout plan.rows) }
-    ensures picks { IfOk result (λ plan. map pick_seen plan.picks.items ≡ picks_of query.now world.now.layout) }
+    ensures picks { IfOk result (λ plan. map pick_seen plan.picks.items
+        ≡ picks_of query.now world.now.layout) }
     ensures archetypes { IfOk result (λ plan. plan.archetypes ≡ length world.now.layout) }
-    ensures apart { IfOk result (λ plan. AllByRecursion (λ a. AreApart a.entities) world.now.layout) }
+    ensures apart { IfOk result (λ plan. AllByRecursion (λ a. AreApart a.entities)
+        world.now.layout) }
 {
     let mut archetypes = take_list(&mut room.archetypes, alloc);
     all_archetypes(world, &mut archetypes)?;
@@ -58,12 +64,18 @@ pub fn plan_by(
 ) -> Result<Plan, AllocError>
     requires home { ArePickedHome query.now world.now.layout }
     requires shape { shape ≡ shape_number (shape_of query.now) }
-    ensures rows { IfOk result (λ plan. map (λ row. row.entity) (rows_of_places world.now.layout plan.rows) ≡ map (λ row. row.entity) (input.rows_of query.now last_run world.now.state.slots)) }
-    ensures places { IfOk result (λ plan. AllByRecursion (IsStanding world.now.state.slots world.now.layout) (rows_of_places world.now.layout plan.rows)) }
+    ensures rows { IfOk result (λ plan. map (λ row. row.entity) (rows_of_places world.now.layout
+        plan.rows)
+        ≡ map (λ row. row.entity) (input.rows_of query.now last_run world.now.state.slots)) }
+    ensures places { IfOk result (λ plan. AllByRecursion
+        (IsStanding world.now.state.slots world.now.layout) (rows_of_places world.now.layout
+        plan.rows)) }
     ensures counted { IfOk result (λ plan. IsCounted world.now.layout plan.rows) }
-    ensures picks { IfOk result (λ plan. map pick_seen plan.picks.items ≡ picks_of query.now world.now.layout) }
+    ensures picks { IfOk result (λ plan. map pick_seen plan.picks.items
+        ≡ picks_of query.now world.now.layout) }
     ensures archetypes { IfOk result (λ plan. plan.archetypes ≡ length world.now.layout) }
-    ensures apart { IfOk result (λ plan. AllByRecursion (λ a. AreApart a.entities) world.now.layout) }
+    ensures apart { IfOk result (λ plan. AllByRecursion (λ a. AreApart a.entities)
+        world.now.layout) }
 {
     // Proves that the kinds of the query have bits.
     let _terms = query.terms();
@@ -80,7 +92,8 @@ pub fn plan_by(
 
 // Lists the numbers of all archetypes, in a list that is emptied first.
 fn all_archetypes(world: &World, archetypes: &mut Vec<usize>) -> Result<(), AllocError>
-    ensures { OnOk result (archetypes.new.items ≡ numbers_where (λ kinds. true) 0 world.now.layout) }
+    ensures { OnOk result (archetypes.new.items
+        ≡ numbers_where (λ kinds. true) 0 world.now.layout) }
 {
     let count = world.archetype_count();
     archetypes.clear();
@@ -102,12 +115,18 @@ fn plan_among(
 ) -> Result<Plan, AllocError>
     requires among { AreCandidates query.now world.now.layout archetypes.now }
     requires home { ArePickedHome query.now world.now.layout }
-    ensures rows { IfOk result (λ plan. map (λ row. row.entity) (rows_of_places world.now.layout plan.rows) ≡ map (λ row. row.entity) (input.rows_of query.now last_run world.now.state.slots)) }
-    ensures places { IfOk result (λ plan. AllByRecursion (IsStanding world.now.state.slots world.now.layout) (rows_of_places world.now.layout plan.rows)) }
+    ensures rows { IfOk result (λ plan. map (λ row. row.entity) (rows_of_places world.now.layout
+        plan.rows)
+        ≡ map (λ row. row.entity) (input.rows_of query.now last_run world.now.state.slots)) }
+    ensures places { IfOk result (λ plan. AllByRecursion
+        (IsStanding world.now.state.slots world.now.layout) (rows_of_places world.now.layout
+        plan.rows)) }
     ensures counted { IfOk result (λ plan. IsCounted world.now.layout plan.rows) }
-    ensures picks { IfOk result (λ plan. map pick_seen plan.picks.items ≡ picks_of query.now world.now.layout) }
+    ensures picks { IfOk result (λ plan. map pick_seen plan.picks.items
+        ≡ picks_of query.now world.now.layout) }
     ensures archetypes { IfOk result (λ plan. plan.archetypes ≡ length world.now.layout) }
-    ensures apart { IfOk result (λ plan. AllByRecursion (λ a. AreApart a.entities) world.now.layout) }
+    ensures apart { IfOk result (λ plan. AllByRecursion (λ a. AreApart a.entities)
+        world.now.layout) }
 {
     // Proves that no entity is in an archetype twice.
     world.prove_apart();

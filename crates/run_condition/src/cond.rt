@@ -154,7 +154,8 @@ impl Cond {
 
     /// The queries of the condition, in order.
     pub fn queries(&self, alloc: Global) -> Result<Vec<&Query>, AllocError>
-        ensures { IfOk result (λ queries. map (λ query. query.now) queries.items ≡ queries_of self.now) }
+        ensures { IfOk result (λ queries. map (λ query. query.now) queries.items
+            ≡ queries_of self.now) }
     {
         queries_in(alloc, &self.tree)
     }
@@ -162,7 +163,8 @@ impl Cond {
 
 // The queries of the condition, in order.
 fn queries_in(alloc: Global, tree: &Tree) -> Result<Vec<&Query>, AllocError>
-    ensures { IfOk result (λ queries. map (λ query. query.now) queries.items ≡ queries_of (condition_of tree.now)) }
+    ensures { IfOk result (λ queries. map (λ query. query.now) queries.items
+        ≡ queries_of (condition_of tree.now)) }
 {
     let mut queries = Vec::new(alloc);
     push_queries(tree, &mut queries)?;

@@ -96,7 +96,8 @@ fn read_call<'a>(
     text: &'a str,
     depth: u32,
 ) -> Result<(Cond, &'a str), ReadError>
-    ensures { ReadsRest (InBrackets (λ c inside. IsMade depth c word (Some inside))) text.now result }
+    ensures { ReadsRest (InBrackets (λ c inside. IsMade depth c word (Some inside))) text.now
+        result }
 {
     match word {
         Word::Not => read_not(alloc, text, depth),
@@ -111,7 +112,8 @@ fn read_call<'a>(
 // A `not`, from what stands behind its opening bracket, and the rest.
 #[cycle(condition)]
 fn read_not<'a>(alloc: Global, text: &'a str, depth: u32) -> Result<(Cond, &'a str), ReadError>
-    ensures { ReadsRest (InBrackets (λ c inside. IsMade depth c word.Not (Some inside))) text.now result }
+    ensures { ReadsRest (InBrackets (λ c inside. IsMade depth c word.Not (Some inside))) text.now
+        result }
 {
     if depth == 0 {
         return Err(ReadError::Outside);
@@ -123,7 +125,8 @@ fn read_not<'a>(alloc: Global, text: &'a str, depth: u32) -> Result<(Cond, &'a s
 // An `and`, from what stands behind its opening bracket, and the rest.
 #[cycle(condition)]
 fn read_and<'a>(alloc: Global, text: &'a str, depth: u32) -> Result<(Cond, &'a str), ReadError>
-    ensures { ReadsRest (InBrackets (λ c inside. IsMade depth c word.And (Some inside))) text.now result }
+    ensures { ReadsRest (InBrackets (λ c inside. IsMade depth c word.And (Some inside))) text.now
+        result }
 {
     if depth == 0 {
         return Err(ReadError::Outside);
@@ -135,7 +138,8 @@ fn read_and<'a>(alloc: Global, text: &'a str, depth: u32) -> Result<(Cond, &'a s
 // An `or`, from what stands behind its opening bracket, and the rest.
 #[cycle(condition)]
 fn read_or<'a>(alloc: Global, text: &'a str, depth: u32) -> Result<(Cond, &'a str), ReadError>
-    ensures { ReadsRest (InBrackets (λ c inside. IsMade depth c word.Or (Some inside))) text.now result }
+    ensures { ReadsRest (InBrackets (λ c inside. IsMade depth c word.Or (Some inside))) text.now
+        result }
 {
     if depth == 0 {
         return Err(ReadError::Outside);
@@ -151,7 +155,10 @@ fn read_two<'a>(
     text: &'a str,
     depth: u32,
 ) -> Result<((Cond, Cond), &'a str), ReadError>
-    ensures { ReadsRest (InBrackets (λ (v : Condition × Condition). AreTwo (IsConditionWithin depth v.0) (IsConditionWithin depth v.1))) text.now result }
+    ensures { ReadsRest
+        (InBrackets (λ (v : Condition × Condition). AreTwo (IsConditionWithin depth v.0)
+        (IsConditionWithin depth v.1)))
+        text.now result }
 {
     let (left, after) = read_left(alloc, text, depth)?;
     let (right, rest) = read_last(alloc, after, depth)?;
@@ -186,7 +193,8 @@ fn read_last<'a>(alloc: Global, text: &'a str, depth: u32) -> Result<(Cond, &'a 
 
 // A condition that holds no other, from what stands behind its opening bracket, and the rest.
 fn read_held<'a>(alloc: Global, word: Word, text: &'a str) -> Result<(Cond, &'a str), ReadError>
-    ensures { ReadsRest (InBrackets (λ c inside. Lacks 41 inside × IsLeaf c word inside)) text.now result }
+    ensures { ReadsRest (InBrackets (λ c inside. Lacks 41 inside × IsLeaf c word inside)) text.now
+        result }
 {
     match text.split_once(')') {
         None => Err(ReadError::Outside),
@@ -245,7 +253,8 @@ fn only_word<'a>(alloc: Global, text: &'a str) -> Result<&'a str, ReadError>
 
 // The only one of these texts.
 fn one_of<'a>(texts: &[&'a str]) -> Option<&'a str>
-    ensures { MatchOption result ((text : List ℕ) → map (λ text. text.now) texts.now ≢ text ∷ []) (λ text. map (λ text. text.now) texts.now ≡ text.now ∷ []) }
+    ensures { MatchOption result ((text : List ℕ) → map (λ text. text.now) texts.now ≢ text ∷ [])
+        (λ text. map (λ text. text.now) texts.now ≡ text.now ∷ []) }
 {
     match texts {
         [text] => Some(text),
@@ -255,7 +264,10 @@ fn one_of<'a>(texts: &[&'a str]) -> Option<&'a str>
 
 // The only two of these texts.
 fn two_of<'a>(texts: &[&'a str]) -> Option<(&'a str, &'a str)>
-    ensures { MatchOption result ((left right : List ℕ) → map (λ text. text.now) texts.now ≢ left ∷ right ∷ []) (λ both. map (λ text. text.now) texts.now ≡ both.0.now ∷ both.1.now ∷ []) }
+    ensures { MatchOption result
+        ((left right : List ℕ) → map (λ text. text.now) texts.now ≢ left ∷ right ∷ []) (λ both. map
+        (λ text. text.now) texts.now
+        ≡ both.0.now ∷ both.1.now ∷ []) }
 {
     match texts {
         [left, right] => Some((left, right)),

@@ -49,7 +49,10 @@ impl Listing {
     /// The systems with which a pair has the system, either way.
     pub(crate) fn paired(alloc: Global, pairs: &[Order], system: usize) -> Result<Self, AllocError>
         requires { All (IsBetween (2 ^ 32)) pairs.now }
-        ensures { IfOk result (λ others. (n : ℕ) → (has n others ≡ true) ↔ (IsIn (system, n) (pairs_of pairs.now) ⊎ IsIn (n, system) (pairs_of pairs.now))) }
+        ensures { IfOk result (λ others. (n : ℕ)
+            → (has n others ≡ true)
+            ↔ (IsIn (system, n) (pairs_of pairs.now)
+            ⊎ IsIn (n, system) (pairs_of pairs.now))) }
     {
         let mut numbers = Vec::new(alloc);
         for pair in pairs {

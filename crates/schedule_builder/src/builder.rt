@@ -87,7 +87,8 @@ fn names_at(
 
 /// What is declared by number, where every name is that of one item.
 fn resolved(alloc: Global, desc: &ScheduleDesc) -> Result<Resolved, BuildFault>
-    ensures declared { IfOk result (λ r. AreDeclared desc.now r.inside.items r.orders.items r.plain.items r.silences.items) }
+    ensures declared { IfOk result (λ r. AreDeclared desc.now r.inside.items r.orders.items
+        r.plain.items r.silences.items) }
     ensures named { OnOk result (IsNamed desc.now) }
     ensures refused { IfErr result (IsAnswered desc.now) }
 {
@@ -339,7 +340,8 @@ fn check_limits(desc: &ScheduleDesc, conditions: &[&Cond]) -> Result<(), BuildFa
 
 // Whether a system has more queries than it may.
 fn has_too_many_queries(desc: &ScheduleDesc) -> bool
-    ensures { MatchBool result (HasManyQueries desc.now) ((n : ℕ) → length (declared_at desc.now n).params.queries ≤ 8) }
+    ensures { MatchBool result (HasManyQueries desc.now) ((n : ℕ)
+        → length (declared_at desc.now n).params.queries ≤ 8) }
 {
     for number in 0..desc.systems().len() {
         if desc.system(number).params().queries().len() > QUERIES {
@@ -400,13 +402,17 @@ fn relations_of(
     resolved: &Resolved,
 ) -> Result<Relations, AllocError>
     requires hierarchy { hierarchy.now ≡ hierarchy_of desc.now }
-    requires declared { AreDeclared desc.now resolved.now.inside.items resolved.now.orders.items resolved.now.plain.items resolved.now.silences.items }
+    requires declared { AreDeclared desc.now resolved.now.inside.items resolved.now.orders.items
+        resolved.now.plain.items resolved.now.silences.items }
     requires whole { IsWhole desc.now }
     requires few_sets { length desc.now.sets ≤ 64 }
     requires few_systems { length desc.now.systems ≤ 256 }
-    ensures edges { IfOk result (λ found. AreEdges (hierarchy_of desc.now) (declared_orders desc.now) found.edges.items) }
-    ensures plain { IfOk result (λ found. AreEdges (hierarchy_of desc.now) (plain_orders desc.now) found.plain.items) }
-    ensures coverage { IfOk result (λ found. AreCovered (hierarchy_of desc.now) (owners_of desc.now) found.coverage.items) }
+    ensures edges { IfOk result (λ found. AreEdges (hierarchy_of desc.now)
+        (declared_orders desc.now) found.edges.items) }
+    ensures plain { IfOk result (λ found. AreEdges (hierarchy_of desc.now) (plain_orders desc.now)
+        found.plain.items) }
+    ensures coverage { IfOk result (λ found. AreCovered (hierarchy_of desc.now) (owners_of desc.now)
+        found.coverage.items) }
     ensures silences { IfOk result (λ found. AreDeclaredSilences desc.now found.silences.items) }
 {
     let owners = owners_of(alloc, desc)?;
@@ -425,11 +431,15 @@ fn relations_of(
 
 /// What is found of systems, where nothing is at fault.
 fn checked(alloc: Global, desc: &ScheduleDesc) -> Result<Relations, BuildFault>
-    ensures edges { IfOk result (λ found. AreEdges (hierarchy_of desc.now) (declared_orders desc.now) found.edges.items) }
-    ensures plain { IfOk result (λ found. AreEdges (hierarchy_of desc.now) (plain_orders desc.now) found.plain.items) }
-    ensures coverage { IfOk result (λ found. AreCovered (hierarchy_of desc.now) (owners_of desc.now) found.coverage.items) }
+    ensures edges { IfOk result (λ found. AreEdges (hierarchy_of desc.now)
+        (declared_orders desc.now) found.edges.items) }
+    ensures plain { IfOk result (λ found. AreEdges (hierarchy_of desc.now) (plain_orders desc.now)
+        found.plain.items) }
+    ensures coverage { IfOk result (λ found. AreCovered (hierarchy_of desc.now) (owners_of desc.now)
+        found.coverage.items) }
     ensures silences { IfOk result (λ found. AreDeclaredSilences desc.now found.silences.items) }
-    ensures rankable { OnOk result (IsRankable (IsFollowed (hierarchy_of desc.now) (declared_orders desc.now))) }
+    ensures rankable { OnOk result (IsRankable (IsFollowed (hierarchy_of desc.now) (declared_orders
+        desc.now))) }
     ensures buildable { OnOk result (IsBuildable desc.now) }
     ensures refused { IfErr result (IsAnswered desc.now) }
 {
@@ -444,7 +454,8 @@ fn checked(alloc: Global, desc: &ScheduleDesc) -> Result<Relations, BuildFault>
 /// The systems with the predecessors that edges give them, of no level yet.
 fn scheduled(alloc: Global, params: Vec<Params>, edges: &[Order]) -> Result<Vec<System>, AllocError>
     requires { All (IsBetween (2 ^ 32)) edges.now }
-    ensures { IfOk result (λ built. AreScheduled edges.now [] (map system_with params.items) built.items) }
+    ensures { IfOk result (λ built. AreScheduled edges.now [] (map system_with params.items)
+        built.items) }
 {
     let mut built = Vec::new(alloc);
     for touched in params {

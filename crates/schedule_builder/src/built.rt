@@ -73,9 +73,26 @@ impl Model for Built {
 
     ghost coded = { schedule_code };
 
-    ghost view = { λ b. record { systems = b.systems.items; conditions = b.conditions.items; syncs = b.syncs; order = b.order.items; silences = b.silences.items; sets = None } };
+    ghost view = { λ b. record {
+      systems = b.systems.items;
+      conditions = b.conditions.items;
+      syncs = b.syncs;
+      order = b.order.items;
+      silences = b.silences.items;
+      sets = None;
+    } };
 
-    ghost invariant = { λ b. IsBuilt (record { systems = b.systems.items; conditions = b.conditions.items; syncs = b.syncs; order = b.order.items; silences = b.silences.items; sets = None }) × HasConditionRows b.systems.items b.conditions.items b.asked_by.items b.clashes.items × HasRows b.systems.items b.before.items b.rivals.items × AreApart b.systems.items × HasCounts b.systems.items b.after.items b.waits.items b.sizes.items };
+    ghost invariant = { λ b. IsBuilt (record {
+      systems = b.systems.items;
+      conditions = b.conditions.items;
+      syncs = b.syncs;
+      order = b.order.items;
+      silences = b.silences.items;
+      sets = None;
+    })
+        × HasConditionRows b.systems.items b.conditions.items b.asked_by.items b.clashes.items
+        × HasRows b.systems.items b.before.items b.rivals.items × AreApart b.systems.items
+        × HasCounts b.systems.items b.after.items b.waits.items b.sizes.items };
 }
 
 impl Built {
@@ -91,9 +108,11 @@ impl Built {
         order: Vec<u32>,
         silences: Vec<Listing>,
     ) -> Result<Self, AllocError>
-        requires built { IsBuilt (schedule_with systems.items conditions.items syncs order.items silences.items) }
+        requires built { IsBuilt (schedule_with systems.items conditions.items syncs order.items
+            silences.items) }
         requires apart { AreApart systems.items }
-        ensures { IfOk result (λ built. built ≡ schedule_with systems.items conditions.items syncs order.items silences.items) }
+        ensures { IfOk result (λ built. built
+            ≡ schedule_with systems.items conditions.items syncs order.items silences.items) }
     {
         let before = rows_before(alloc, systems.as_slice())?;
         let rivals = rows_of_rivals(alloc, systems.as_slice())?;
@@ -121,7 +140,15 @@ impl Built {
     /// The schedule with no system and one sync point.
     #[tactic(auto, unfolding(crate::specs::Counts::HasCounts, crate::specs::Conditions::HasConditionRows))]
     pub fn empty(alloc: Global) -> Self
-        ensures { result ≡ record { systems = []; conditions = []; syncs = 1; order = []; silences = []; sets = None } }
+        ensures { result
+            ≡ record {
+              systems = [];
+              conditions = [];
+              syncs = 1;
+              order = [];
+              silences = [];
+              sets = None;
+            } }
     {
         Built {
             systems: Vec::new(alloc),
@@ -149,7 +176,8 @@ impl Built {
     /// No two parameters of one system conflict: neither two of its queries, nor two that name a resource or an event kind that
     /// one of them writes.
     pub fn prove_apart(&self)
-        ensures { (n : ℕ) → n < length self.now.systems → ConflictWithin (params_of self.now n) → ⊥ }
+        ensures { (n : ℕ) → n < length self.now.systems → ConflictWithin (params_of self.now n)
+            → ⊥ }
     {
         let _ = &self.syncs;
     }
@@ -189,7 +217,8 @@ impl Built {
     #[tactic(auto, unfolding(crate::specs::Conditions::HasConditionRows))]
     pub fn clashes(&self, condition: u32) -> &NumberSet
         requires { condition < length self.now.conditions }
-        ensures { IsRow (length self.now.systems) (IsClash self.now.systems self.now.conditions condition) result.now }
+        ensures { IsRow (length self.now.systems)
+            (IsClash self.now.systems self.now.conditions condition) result.now }
     {
         &self.clashes[condition as usize]
     }
@@ -292,7 +321,9 @@ impl Built {
     /// By number how many systems have an edge to each system.
     #[tactic(auto, unfolding(crate::specs::Counts::HasCounts))]
     pub fn waits(&self) -> &[u32]
-        ensures { (n : ℕ) → get_or result.now n 0 ≡ count_below (waits_for self.now.systems n) (length self.now.systems) }
+        ensures { (n : ℕ)
+            → get_or result.now n 0
+            ≡ count_below (waits_for self.now.systems n) (length self.now.systems) }
     {
         self.waits.as_slice()
     }
@@ -300,7 +331,9 @@ impl Built {
     /// By number how many systems have each level.
     #[tactic(auto, unfolding(crate::specs::Counts::HasCounts))]
     pub fn sizes(&self) -> &[u32]
-        ensures { (k : ℕ) → get_or result.now k 0 ≡ count_below (is_at self.now.systems k) (length self.now.systems) }
+        ensures { (k : ℕ)
+            → get_or result.now k 0
+            ≡ count_below (is_at self.now.systems k) (length self.now.systems) }
     {
         self.sizes.as_slice()
     }

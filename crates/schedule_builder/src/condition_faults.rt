@@ -20,7 +20,8 @@ use system_set::Members;
 
 // Adds these conditions behind the others.
 fn push_conditions<'a>(conditions: &'a [Cond], asked: &mut Vec<&'a Cond>) -> Result<(), AllocError>
-    ensures { OnOk result (map (λ c. c.now) asked.new.items ≡ map (λ c. c.now) asked.old.items ++ conditions.now) }
+    ensures { OnOk result (map (λ c. c.now) asked.new.items
+        ≡ map (λ c. c.now) asked.old.items ++ conditions.now) }
 {
     for condition in conditions {
         asked.push(condition)?;
@@ -41,7 +42,8 @@ pub(crate) fn conditions_of(alloc: Global, desc: &ScheduleDesc) -> Result<Vec<&C
 
 // Adds the number once for each of these conditions.
 fn push_owner(number: usize, conditions: &[Cond], owners: &mut Vec<usize>) -> Result<(), AllocError>
-    ensures { OnOk result (owners.new.items ≡ owners.old.items ++ map (λ _. number) conditions.now) }
+    ensures { OnOk result (owners.new.items
+        ≡ owners.old.items ++ map (λ _. number) conditions.now) }
 {
     for _ in conditions {
         owners.push(number)?;
@@ -97,14 +99,17 @@ fn is_any_written(terms: &[Term]) -> bool
 
 // Whether the query writes a kind.
 fn is_writing(query: &Query) -> bool
-    ensures { MatchBool result ((kind : ℕ) × (writes query.now kind ≡ true)) ((kind : ℕ) → writes query.now kind ≡ false) }
+    ensures { MatchBool result ((kind : ℕ) × (writes query.now kind ≡ true)) ((kind : ℕ)
+        → writes query.now kind ≡ false) }
 {
     is_any_written(query.terms())
 }
 
 // Whether one of the queries writes a kind.
 fn has_writing(queries: &[&Query]) -> bool
-    ensures { MatchBool result (HasWriting (map (λ q. q.now) queries.now)) (HasWriting (map (λ q. q.now) queries.now) → ⊥) }
+    ensures { MatchBool result (HasWriting (map (λ q. q.now) queries.now)) (HasWriting (map
+        (λ q. q.now) queries.now)
+        → ⊥) }
 {
     for query in queries {
         if is_writing(query) {
@@ -137,7 +142,8 @@ pub(crate) fn scheduled_conditions(
     coverage: &[Members],
 ) -> Result<Vec<Condition>, AllocError>
     requires { length coverage.now ≡ length asked.items }
-    ensures { IfOk result (λ conditions. AreScheduledConditions asked.items coverage.now conditions.items) }
+    ensures { IfOk result (λ conditions. AreScheduledConditions asked.items coverage.now
+        conditions.items) }
 {
     let mut conditions = Vec::new(alloc);
     for cond in asked {

@@ -20,7 +20,8 @@ pub(crate) fn lists_of_conditions(
     requires systems { length systems.now ≤ 256 }
     requires conditions { length conditions.now ≤ 512 }
     ensures long { IfOk result (λ lists. length lists.items ≡ length systems.now) }
-    ensures each { IfOk result (λ lists. (n : ℕ) → n < length systems.now → IsRisingListing (IsCovering conditions.now n) (get_or lists.items n [])) }
+    ensures each { IfOk result (λ lists. (n : ℕ) → n < length systems.now
+        → IsRisingListing (IsCovering conditions.now n) (get_or lists.items n [])) }
 {
     let mut lists = Vec::new(alloc);
     for system in 0..systems.len() {
@@ -36,7 +37,8 @@ pub(crate) fn rows_of_clashes(
     conditions: &[Condition],
 ) -> Result<Vec<NumberSet>, AllocError>
     requires { length systems.now ≤ 256 }
-    ensures { IfOk result (λ rows. AreRows (length systems.now) (length conditions.now) (IsClash systems.now conditions.now) rows.items) }
+    ensures { IfOk result (λ rows. AreRows (length systems.now) (length conditions.now)
+        (IsClash systems.now conditions.now) rows.items) }
 {
     let mut rows = Vec::new(alloc);
     for condition in conditions {

@@ -17,7 +17,10 @@ pub(crate) fn lists_after(
 ) -> Result<Vec<Successors>, AllocError>
     requires { length before.now ≤ 256 }
     ensures long { IfOk result (λ lists. length lists.items ≡ length before.now) }
-    ensures each { IfOk result (λ lists. (n : ℕ) → n < length before.now → IsListing (λ m. (m < length before.now) × (contains (get_or before.now m []) n ≡ true)) (get_or lists.items n [])) }
+    ensures each { IfOk result (λ lists. (n : ℕ) → n < length before.now
+        → IsListing
+        (λ m. (m < length before.now) × (contains (get_or before.now m []) n ≡ true))
+        (get_or lists.items n [])) }
 {
     let mut lists = Vec::new(alloc);
     for number in 0..before.len() {
@@ -29,7 +32,8 @@ pub(crate) fn lists_after(
 /// For each system how many have an edge to it.
 pub(crate) fn counts_before(alloc: Global, before: &[NumberSet]) -> Result<Vec<u32>, AllocError>
     requires { length before.now ≤ 256 }
-    ensures { IfOk result (λ counts. counts.items ≡ map (λ row. count_below (contains row) (length before.now)) before.now) }
+    ensures { IfOk result (λ counts. counts.items
+        ≡ map (λ row. count_below (contains row) (length before.now)) before.now) }
 {
     let count = before.len() as u32;
     before
@@ -58,7 +62,8 @@ pub(crate) fn counts_at(
 ) -> Result<Vec<u32>, AllocError>
     requires { length systems.now ≤ 256 }
     ensures long { IfOk result (λ counts. length counts.items ≡ levels) }
-    ensures each { IfOk result (λ counts. (k : ℕ) → k < levels → get_or counts.items k 0 ≡ count_below (is_at systems.now k) (length systems.now)) }
+    ensures each { IfOk result (λ counts. (k : ℕ) → k < levels
+        → get_or counts.items k 0 ≡ count_below (is_at systems.now k) (length systems.now)) }
 {
     let mut counts = Vec::new(alloc);
     for level in 0..levels {

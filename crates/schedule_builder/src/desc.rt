@@ -47,7 +47,16 @@ impl Model for ItemDesc {
 
     ghost coded = { item_code };
 
-    ghost view = { λ i. record { name = string_bytes i.name; inside = map string_bytes i.inside.items; before = map string_bytes i.before.items; after = map string_bytes i.after.items; before_ignore_deferred = map string_bytes i.before_ignore_deferred.items; after_ignore_deferred = map string_bytes i.after_ignore_deferred.items; ambiguous_with = map string_bytes i.ambiguous_with.items; conditions = i.conditions.items } };
+    ghost view = { λ i. record {
+      name = string_bytes i.name;
+      inside = map string_bytes i.inside.items;
+      before = map string_bytes i.before.items;
+      after = map string_bytes i.after.items;
+      before_ignore_deferred = map string_bytes i.before_ignore_deferred.items;
+      after_ignore_deferred = map string_bytes i.after_ignore_deferred.items;
+      ambiguous_with = map string_bytes i.ambiguous_with.items;
+      conditions = i.conditions.items;
+    } };
 }
 
 impl ItemDesc {
@@ -69,7 +78,8 @@ impl ItemDesc {
 
     /// Declares that the item is in the set of this name. Where an allocation fails nothing is declared.
     pub fn add_in(&mut self, name: String) -> Result<(), AllocError>
-        ensures ok { OnOk result (self.new ≡ record self.old { inside = self.old.inside ++ string_bytes name ∷ [] }) }
+        ensures ok { OnOk result (self.new
+            ≡ record self.old { inside = self.old.inside ++ string_bytes name ∷ [] }) }
         ensures err { OnErr result (self.new ≡ self.old) }
     {
         self.inside.push(name)?;
@@ -78,7 +88,8 @@ impl ItemDesc {
 
     /// Declares that the item runs before the item of this name. Where an allocation fails nothing is declared.
     pub fn add_before(&mut self, name: String) -> Result<(), AllocError>
-        ensures ok { OnOk result (self.new ≡ record self.old { before = self.old.before ++ string_bytes name ∷ [] }) }
+        ensures ok { OnOk result (self.new
+            ≡ record self.old { before = self.old.before ++ string_bytes name ∷ [] }) }
         ensures err { OnErr result (self.new ≡ self.old) }
     {
         self.before.push(name)?;
@@ -87,7 +98,8 @@ impl ItemDesc {
 
     /// Declares that the item runs after the item of this name. Where an allocation fails nothing is declared.
     pub fn add_after(&mut self, name: String) -> Result<(), AllocError>
-        ensures ok { OnOk result (self.new ≡ record self.old { after = self.old.after ++ string_bytes name ∷ [] }) }
+        ensures ok { OnOk result (self.new
+            ≡ record self.old { after = self.old.after ++ string_bytes name ∷ [] }) }
         ensures err { OnErr result (self.new ≡ self.old) }
     {
         self.after.push(name)?;
@@ -97,7 +109,11 @@ impl ItemDesc {
     /// Declares that the item runs before the item of this name, which then doesn't wait for commands. Where an allocation fails nothing
     /// is declared.
     pub fn add_before_ignore_deferred(&mut self, name: String) -> Result<(), AllocError>
-        ensures ok { OnOk result (self.new ≡ record self.old { before_ignore_deferred = self.old.before_ignore_deferred ++ string_bytes name ∷ [] }) }
+        ensures ok { OnOk result (self.new
+            ≡ record self.old {
+              before_ignore_deferred = self.old.before_ignore_deferred
+                  ++ string_bytes name ∷ [];
+            }) }
         ensures err { OnErr result (self.new ≡ self.old) }
     {
         self.before_ignore_deferred.push(name)?;
@@ -107,7 +123,11 @@ impl ItemDesc {
     /// Declares that the item runs after the item of this name, and doesn't wait for its commands. Where an allocation fails nothing is
     /// declared.
     pub fn add_after_ignore_deferred(&mut self, name: String) -> Result<(), AllocError>
-        ensures ok { OnOk result (self.new ≡ record self.old { after_ignore_deferred = self.old.after_ignore_deferred ++ string_bytes name ∷ [] }) }
+        ensures ok { OnOk result (self.new
+            ≡ record self.old {
+              after_ignore_deferred = self.old.after_ignore_deferred
+                  ++ string_bytes name ∷ [];
+            }) }
         ensures err { OnErr result (self.new ≡ self.old) }
     {
         self.after_ignore_deferred.push(name)?;
@@ -116,7 +136,11 @@ impl ItemDesc {
 
     /// Declares that the item and the item of this name may be ambiguous. Where an allocation fails nothing is declared.
     pub fn add_ambiguous_with(&mut self, name: String) -> Result<(), AllocError>
-        ensures ok { OnOk result (self.new ≡ record self.old { ambiguous_with = self.old.ambiguous_with ++ string_bytes name ∷ [] }) }
+        ensures ok { OnOk result (self.new
+            ≡ record self.old {
+              ambiguous_with = self.old.ambiguous_with
+                  ++ string_bytes name ∷ [];
+            }) }
         ensures err { OnErr result (self.new ≡ self.old) }
     {
         self.ambiguous_with.push(name)?;
@@ -125,7 +149,8 @@ impl ItemDesc {
 
     /// Declares that the item runs on this condition, besides those that it has. Where an allocation fails nothing is declared.
     pub fn add_condition(&mut self, condition: Cond) -> Result<(), AllocError>
-        ensures ok { OnOk result (self.new ≡ record self.old { conditions = self.old.conditions ++ condition ∷ [] }) }
+        ensures ok { OnOk result (self.new
+            ≡ record self.old { conditions = self.old.conditions ++ condition ∷ [] }) }
         ensures err { OnErr result (self.new ≡ self.old) }
     {
         self.conditions.push(condition)?;
@@ -250,7 +275,13 @@ impl SystemDesc {
 
     /// Declares that the system is in the set of this name. Where an allocation fails nothing is declared.
     pub fn add_in(&mut self, name: String) -> Result<(), AllocError>
-        ensures ok { OnOk result (self.new ≡ record self.old { item = record self.old.item { inside = self.old.item.inside ++ string_bytes name ∷ [] } }) }
+        ensures ok { OnOk result (self.new
+            ≡ record self.old {
+              item = record self.old.item {
+                inside = self.old.item.inside
+                    ++ string_bytes name ∷ [];
+              };
+            }) }
         ensures err { OnErr result (self.new ≡ self.old) }
     {
         self.item.add_in(name)
@@ -258,7 +289,13 @@ impl SystemDesc {
 
     /// Declares that the system runs before the item of this name. Where an allocation fails nothing is declared.
     pub fn add_before(&mut self, name: String) -> Result<(), AllocError>
-        ensures ok { OnOk result (self.new ≡ record self.old { item = record self.old.item { before = self.old.item.before ++ string_bytes name ∷ [] } }) }
+        ensures ok { OnOk result (self.new
+            ≡ record self.old {
+              item = record self.old.item {
+                before = self.old.item.before
+                    ++ string_bytes name ∷ [];
+              };
+            }) }
         ensures err { OnErr result (self.new ≡ self.old) }
     {
         self.item.add_before(name)
@@ -266,7 +303,13 @@ impl SystemDesc {
 
     /// Declares that the system runs after the item of this name. Where an allocation fails nothing is declared.
     pub fn add_after(&mut self, name: String) -> Result<(), AllocError>
-        ensures ok { OnOk result (self.new ≡ record self.old { item = record self.old.item { after = self.old.item.after ++ string_bytes name ∷ [] } }) }
+        ensures ok { OnOk result (self.new
+            ≡ record self.old {
+              item = record self.old.item {
+                after = self.old.item.after
+                    ++ string_bytes name ∷ [];
+              };
+            }) }
         ensures err { OnErr result (self.new ≡ self.old) }
     {
         self.item.add_after(name)
@@ -274,7 +317,14 @@ impl SystemDesc {
 
     /// Declares that the system runs on this condition, besides those that it has. Where an allocation fails nothing is declared.
     pub fn add_condition(&mut self, condition: Cond) -> Result<(), AllocError>
-        ensures ok { OnOk result (self.new ≡ record self.old { item = record self.old.item { conditions = self.old.item.conditions ++ condition ∷ [] } }) }
+        ensures ok { OnOk result (self.new
+            ≡ record self.old {
+              item = record self.old.item {
+                conditions =
+                    self.old.item.conditions
+                    ++ condition ∷ [];
+              };
+            }) }
         ensures err { OnErr result (self.new ≡ self.old) }
     {
         self.item.add_condition(condition)
@@ -328,7 +378,10 @@ impl Model for ChainDesc {
 
     ghost coded = { chain_code };
 
-    ghost view = { λ c. record { items = map string_bytes c.items.items; ignores_deferred = c.ignores_deferred } };
+    ghost view = { λ c. record {
+      items = map string_bytes c.items.items;
+      ignores_deferred = c.ignores_deferred;
+    } };
 }
 
 impl ChainDesc {
@@ -344,7 +397,8 @@ impl ChainDesc {
 
     /// Adds the item of this name at the end. Where an allocation fails nothing is added.
     pub fn add_item(&mut self, name: String) -> Result<(), AllocError>
-        ensures ok { OnOk result (self.new ≡ record self.old { items = self.old.items ++ string_bytes name ∷ [] }) }
+        ensures ok { OnOk result (self.new
+            ≡ record self.old { items = self.old.items ++ string_bytes name ∷ [] }) }
         ensures err { OnErr result (self.new ≡ self.old) }
     {
         self.items.push(name)?;
@@ -393,7 +447,11 @@ impl Model for ScheduleDesc {
 
     ghost coded = { declared_code };
 
-    ghost view = { λ d. record { sets = d.sets.items; systems = d.systems.items; chains = d.chains.items } };
+    ghost view = { λ d. record {
+      sets = d.sets.items;
+      systems = d.systems.items;
+      chains = d.chains.items;
+    } };
 }
 
 impl ScheduleDesc {
@@ -419,7 +477,8 @@ impl ScheduleDesc {
 
     /// Declares a system after the others. Where an allocation fails nothing is declared.
     pub fn add_system(&mut self, system: SystemDesc) -> Result<(), AllocError>
-        ensures ok { OnOk result (self.new ≡ record self.old { systems = self.old.systems ++ system ∷ [] }) }
+        ensures ok { OnOk result (self.new
+            ≡ record self.old { systems = self.old.systems ++ system ∷ [] }) }
         ensures err { OnErr result (self.new ≡ self.old) }
     {
         self.systems.push(system)?;
@@ -428,7 +487,8 @@ impl ScheduleDesc {
 
     /// Declares a chain after the others. Where an allocation fails nothing is declared.
     pub fn add_chain(&mut self, chain: ChainDesc) -> Result<(), AllocError>
-        ensures ok { OnOk result (self.new ≡ record self.old { chains = self.old.chains ++ chain ∷ [] }) }
+        ensures ok { OnOk result (self.new
+            ≡ record self.old { chains = self.old.chains ++ chain ∷ [] }) }
         ensures err { OnErr result (self.new ≡ self.old) }
     {
         self.chains.push(chain)?;

@@ -27,7 +27,8 @@ fn append_conditions(conditions: &mut Vec<Cond>, more: Vec<Cond>) -> Result<(), 
 
 // The conditions of sets.
 fn conditions_of_sets(alloc: Global, sets: Vec<ItemDesc>) -> Result<Vec<Cond>, AllocError>
-    ensures { IfOk result (λ conditions. conditions.items ≡ flat_map (λ s. s.conditions) sets.items) }
+    ensures { IfOk result (λ conditions. conditions.items
+        ≡ flat_map (λ s. s.conditions) sets.items) }
 {
     let mut conditions = Vec::new(alloc);
     for set in sets {
@@ -43,7 +44,8 @@ fn parts_of_systems(
     systems: Vec<SystemDesc>,
 ) -> Result<Parts, AllocError>
     ensures params { IfOk result (λ parts. parts.params.items ≡ map (λ s. s.params) systems.items) }
-    ensures conditions { IfOk result (λ parts. parts.conditions.items ≡ conditions.items ++ flat_map (λ s. s.item.conditions) systems.items) }
+    ensures conditions { IfOk result (λ parts. parts.conditions.items
+        ≡ conditions.items ++ flat_map (λ s. s.item.conditions) systems.items) }
 {
     let mut params = Vec::new(alloc);
     let mut moved = conditions;
@@ -61,8 +63,10 @@ fn parts_of_systems(
 impl ScheduleDesc {
     /// What a schedule is built of.
     pub(crate) fn into_parts(self, alloc: Global) -> Result<Parts, AllocError>
-        ensures params { IfOk result (λ parts. parts.params.items ≡ map (λ s. s.params) self.systems) }
-        ensures conditions { IfOk result (λ parts. parts.conditions.items ≡ flat_map (λ i. i.conditions) (items_of self)) }
+        ensures params { IfOk result (λ parts. parts.params.items
+            ≡ map (λ s. s.params) self.systems) }
+        ensures conditions { IfOk result (λ parts. parts.conditions.items
+            ≡ flat_map (λ i. i.conditions) (items_of self)) }
     {
         let (sets, systems) = self.into_items();
         let conditions = conditions_of_sets(alloc, sets)?;

@@ -106,14 +106,17 @@ type Line<'a> = (&'static str, Word<'a>, Word<'a>, Word<'a>);
 
 // A line with one word.
 fn with_word<'a>(code: &'static str, word: Word<'a>) -> Line<'a>
-    ensures { result.0.now ++ word_text result.1 ++ word_text result.2 ++ word_text result.3 ≡ code.now ++ word_text word.entry }
+    ensures { result.0.now ++ word_text result.1 ++ word_text result.2 ++ word_text result.3
+        ≡ code.now ++ word_text word.entry }
 {
     (code, word, Word::Nothing, Word::Nothing)
 }
 
 // The line of a query at fault, with code B10: its owner as a word, its number, and what is wrong with it.
 fn b10<'a>(owner: Word<'a>, query: usize, case: u32) -> Line<'a>
-    ensures { result.0.now ++ word_text result.1 ++ word_text result.2 ++ word_text result.3 ≡ codes "refused B10" ++ word_text owner.entry ++ (32 ∷ decimal query) ++ (32 ∷ decimal case) }
+    ensures { result.0.now ++ word_text result.1 ++ word_text result.2 ++ word_text result.3
+        ≡ codes "refused B10" ++ word_text owner.entry ++ (32 ∷ decimal query)
+        ++ (32 ∷ decimal case) }
 {
     let case = Word::Number(case as usize);
     ("refused B10", owner, Word::Number(query), case)
@@ -122,7 +125,8 @@ fn b10<'a>(owner: Word<'a>, query: usize, case: u32) -> Line<'a>
 impl BuildFault {
     // The line of the fault: its code, and up to three words.
     fn line(&self) -> Line<'_>
-        ensures { result.0.now ++ word_text result.1 ++ word_text result.2 ++ word_text result.3 ≡ build_fault_text self.now }
+        ensures { result.0.now ++ word_text result.1 ++ word_text result.2 ++ word_text result.3
+            ≡ build_fault_text self.now }
     {
         match self {
             BuildFault::UnknownName(name) => with_word("refused B1", Word::Name(name)),

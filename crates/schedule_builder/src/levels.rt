@@ -94,7 +94,8 @@ fn levels_of(
     requires order { IsScheduleOrder (schedule_of systems.now order.now) }
     requires short { length order.now ≤ length systems.now }
     requires sources { HasSourcesBelow systems.now }
-    requires within { (m n : ℕ) → has m (deferring_before systems.now plain.now n) ≡ true → IsEdge systems.now m n }
+    requires within { (m n : ℕ) → has m (deferring_before systems.now plain.now n) ≡ true
+        → IsEdge systems.now m n }
     ensures { IfOk result (λ levels. AreLevels systems.now plain.now levels.items) }
 {
     let mut levels = zeros(alloc, systems.len())?;
@@ -117,7 +118,8 @@ pub(crate) fn found_levels(
     requires falls { IsRankable (IsEdge systems.now) }
     requires sources { HasSourcesBelow systems.now }
     requires rising { AreRising systems.now }
-    requires within { (m n : ℕ) → has m (deferring_before systems.now plain.now n) ≡ true → IsEdge systems.now m n }
+    requires within { (m n : ℕ) → has m (deferring_before systems.now plain.now n) ≡ true
+        → IsEdge systems.now m n }
     ensures { IfOk result (λ levels. AreLevels systems.now plain.now levels.items) }
 {
     let order = order_of(alloc, systems)?;

@@ -18,7 +18,10 @@ fn note(
     name: &str,
     number: usize,
 ) -> Result<(), AllocError>
-    ensures { OnOk result ((x : List ℕ) → get_by_text places.new x ≡ (if bytes_eq name.now x then Some (unwrap_or (get_by_text places.old x) number) else get_by_text places.old x)) }
+    ensures { OnOk result ((x : List ℕ)
+        → get_by_text places.new x
+        ≡ (if bytes_eq name.now x then Some (unwrap_or (get_by_text places.old x) number)
+        else get_by_text places.old x)) }
 {
     if !places.contains_key(name) {
         places.insert(String::from_str(alloc, name)?, number)?;
@@ -43,7 +46,8 @@ pub(crate) fn places_of(
 /// The first item with an earlier item's name.
 pub(crate) fn first_repeated(desc: &ScheduleDesc, places: &BTreeMap<String, usize>) -> Option<usize>
     requires { TellsPlaces desc.now places.now }
-    ensures found { IfSome result (λ n. (n < length (items_of desc.now)) × RepeatsName desc.now n × ((m : ℕ) → m < n → RepeatsName desc.now m → ⊥)) }
+    ensures found { IfSome result (λ n. (n < length (items_of desc.now)) × RepeatsName desc.now n
+        × ((m : ℕ) → m < n → RepeatsName desc.now m → ⊥)) }
     ensures none { IfNone result (HasDistinctNames desc.now) }
 {
     for number in 0..desc.count() {

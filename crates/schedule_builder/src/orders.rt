@@ -51,8 +51,10 @@ fn check_names(
 ) -> Result<(), BuildFault>
     requires told { TellsPlaces desc.now places.now }
     requires few { bound ≤ length (items_of desc.now) }
-    ensures known { OnOk result (EachIs (IsKnown desc.now) (bounded bound (map string_bytes names.now))) }
-    ensures lacking { IfErr result (IsLacking desc.now (bounded bound (map string_bytes names.now))) }
+    ensures known { OnOk result (EachIs (IsKnown desc.now) (bounded bound (map string_bytes
+        names.now))) }
+    ensures lacking { IfErr result (IsLacking desc.now (bounded bound (map string_bytes
+        names.now))) }
 {
     for name in names {
         if place_of(desc, places, name) >= bound {
@@ -88,8 +90,12 @@ fn check_item(
 /// Refuses the first name that an item looks up and that is not known.
 fn check_items(desc: &ScheduleDesc, places: &BTreeMap<String, usize>) -> Result<(), BuildFault>
     requires { TellsPlaces desc.now places.now }
-    ensures known { OnOk result (EachIs (IsKnown desc.now) (flat_map (names_in (length desc.now.sets) (length (items_of desc.now))) (items_of desc.now))) }
-    ensures lacking { IfErr result (IsLacking desc.now (flat_map (names_in (length desc.now.sets) (length (items_of desc.now))) (items_of desc.now))) }
+    ensures known { OnOk result (EachIs (IsKnown desc.now) (flat_map
+        (names_in (length desc.now.sets) (length (items_of desc.now))) (items_of
+        desc.now))) }
+    ensures lacking { IfErr result (IsLacking desc.now (flat_map
+        (names_in (length desc.now.sets) (length (items_of desc.now))) (items_of
+        desc.now))) }
 {
     let sets = desc.sets().len();
     let count = desc.count();
@@ -102,8 +108,10 @@ fn check_items(desc: &ScheduleDesc, places: &BTreeMap<String, usize>) -> Result<
 /// Refuses the first name that a chain looks up and that is not known.
 fn check_chains(desc: &ScheduleDesc, places: &BTreeMap<String, usize>) -> Result<(), BuildFault>
     requires { TellsPlaces desc.now places.now }
-    ensures known { OnOk result (EachIs (IsKnown desc.now) (flat_map (names_along (length (items_of desc.now))) desc.now.chains)) }
-    ensures lacking { IfErr result (IsLacking desc.now (flat_map (names_along (length (items_of desc.now))) desc.now.chains)) }
+    ensures known { OnOk result (EachIs (IsKnown desc.now) (flat_map
+        (names_along (length (items_of desc.now))) desc.now.chains)) }
+    ensures lacking { IfErr result (IsLacking desc.now (flat_map
+        (names_along (length (items_of desc.now))) desc.now.chains)) }
 {
     let count = desc.count();
     let chains = desc.chains();
@@ -134,7 +142,9 @@ fn push_before(
     orders: &mut Vec<Order>,
 ) -> Result<(), AllocError>
     requires { TellsPlaces desc.now places.now }
-    ensures { OnOk result (pairs_of orders.new.items ≡ pairs_of orders.old.items ++ orders_before desc.now number (map string_bytes names.now)) }
+    ensures { OnOk result (pairs_of orders.new.items
+        ≡ pairs_of orders.old.items
+        ++ orders_before desc.now number (map string_bytes names.now)) }
 {
     for name in names {
         let second = place_of(desc, places, name);
@@ -155,7 +165,9 @@ fn push_after(
     orders: &mut Vec<Order>,
 ) -> Result<(), AllocError>
     requires { TellsPlaces desc.now places.now }
-    ensures { OnOk result (pairs_of orders.new.items ≡ pairs_of orders.old.items ++ orders_after desc.now number (map string_bytes names.now)) }
+    ensures { OnOk result (pairs_of orders.new.items
+        ≡ pairs_of orders.old.items
+        ++ orders_after desc.now number (map string_bytes names.now)) }
 {
     for name in names {
         let first = place_of(desc, places, name);
@@ -173,7 +185,8 @@ fn push_link(
     second: usize,
     orders: &mut Vec<Order>,
 ) -> Result<(), AllocError>
-    ensures { OnOk result (pairs_of orders.new.items ≡ pairs_of orders.old.items ++ link previous second) }
+    ensures { OnOk result (pairs_of orders.new.items
+        ≡ pairs_of orders.old.items ++ link previous second) }
 {
     if let Some(first) = previous {
         orders.push(Order { first, second })?;
@@ -189,7 +202,8 @@ fn push_along(
     orders: &mut Vec<Order>,
 ) -> Result<(), AllocError>
     requires { TellsPlaces desc.now places.now }
-    ensures { OnOk result (pairs_of orders.new.items ≡ pairs_of orders.old.items ++ orders_along desc.now chain.now) }
+    ensures { OnOk result (pairs_of orders.new.items
+        ≡ pairs_of orders.old.items ++ orders_along desc.now chain.now) }
 {
     let names = chain.items();
     let mut previous = None;
@@ -209,7 +223,8 @@ fn push_plain_along(
     orders: &mut Vec<Order>,
 ) -> Result<(), AllocError>
     requires { TellsPlaces desc.now places.now }
-    ensures { OnOk result (pairs_of orders.new.items ≡ pairs_of orders.old.items ++ plain_orders_along desc.now chain.now) }
+    ensures { OnOk result (pairs_of orders.new.items
+        ≡ pairs_of orders.old.items ++ plain_orders_along desc.now chain.now) }
 {
     if chain.ignores_deferred() {
         return Ok(());
@@ -226,7 +241,9 @@ fn push_plain(
 ) -> Result<(), AllocError>
     requires told { TellsPlaces desc.now places.now }
     requires known { number < length (items_of desc.now) }
-    ensures { OnOk result (pairs_of orders.new.items ≡ pairs_of orders.old.items ++ plain_orders_in desc.now number (item_at desc.now number)) }
+    ensures { OnOk result (pairs_of orders.new.items
+        ≡ pairs_of orders.old.items
+        ++ plain_orders_in desc.now number (item_at desc.now number)) }
 {
     let item = desc.item(number);
     push_before(desc, places, number, item.before(), orders)?;
@@ -242,7 +259,8 @@ fn push_orders(
 ) -> Result<(), AllocError>
     requires told { TellsPlaces desc.now places.now }
     requires known { number < length (items_of desc.now) }
-    ensures { OnOk result (pairs_of orders.new.items ≡ pairs_of orders.old.items ++ orders_in desc.now number (item_at desc.now number)) }
+    ensures { OnOk result (pairs_of orders.new.items
+        ≡ pairs_of orders.old.items ++ orders_in desc.now number (item_at desc.now number)) }
 {
     let item = desc.item(number);
     push_plain(desc, places, number, orders)?;
@@ -332,7 +350,8 @@ pub(crate) fn resolve(
     places: &BTreeMap<String, usize>,
 ) -> Result<Resolved, BuildFault>
     requires { TellsPlaces desc.now places.now }
-    ensures declared { IfOk result (λ r. AreDeclared desc.now r.inside.items r.orders.items r.plain.items r.silences.items) }
+    ensures declared { IfOk result (λ r. AreDeclared desc.now r.inside.items r.orders.items
+        r.plain.items r.silences.items) }
     ensures known { OnOk result (KnowsNames desc.now) }
     ensures refused { IfErr result (IsAnswered desc.now) }
 {

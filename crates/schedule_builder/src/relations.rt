@@ -17,7 +17,8 @@ use std::alloc::{AllocError, Global};
 pub(crate) fn rows_before(alloc: Global, systems: &[System]) -> Result<Vec<NumberSet>, AllocError>
     requires few { length systems.now ≤ 256 }
     requires sources { HasSourcesBelow systems.now }
-    ensures { IfOk result (λ rows. AreRows (length systems.now) (length systems.now) (IsBefore systems.now) rows.items) }
+    ensures { IfOk result (λ rows. AreRows (length systems.now) (length systems.now)
+        (IsBefore systems.now) rows.items) }
 {
     let mut rows = Vec::new(alloc);
     for system in systems {
@@ -44,7 +45,8 @@ pub(crate) fn rows_of_rivals(
     systems: &[System],
 ) -> Result<Vec<NumberSet>, AllocError>
     requires { length systems.now ≤ 256 }
-    ensures { IfOk result (λ rows. AreRows (length systems.now) (length systems.now) (IsRival systems.now) rows.items) }
+    ensures { IfOk result (λ rows. AreRows (length systems.now) (length systems.now)
+        (IsRival systems.now) rows.items) }
 {
     let mut rows = Vec::new(alloc);
     for number in 0..systems.len() {
@@ -60,7 +62,8 @@ pub(crate) fn row_of_clashes(
     access: &Params,
 ) -> Result<NumberSet, AllocError>
     requires { length systems.now ≤ 256 }
-    ensures { IfOk result (IsRow (length systems.now) (λ m. (m < length systems.now) × Conflict (system_in systems.now m).params access.now)) }
+    ensures { IfOk result (IsRow (length systems.now) (λ m. (m < length systems.now)
+        × Conflict (system_in systems.now m).params access.now)) }
 {
     let mut row = NumberSet::new(alloc, systems.len() as u32)?;
     for other in 0..systems.len() {
@@ -77,7 +80,8 @@ pub(crate) fn row_of_clashes(
 fn insert_if(row: &mut NumberSet, number: u32, test: bool)
     requires { number / 64 < length row.old }
     ensures room { length row.new ≡ length row.old }
-    ensures members { (n : ℕ) → contains row.new n ≡ ((test && (number == n)) || contains row.old n) }
+    ensures members { (n : ℕ)
+        → contains row.new n ≡ ((test && (number == n)) || contains row.old n) }
 {
     if !test {
         return;

@@ -77,8 +77,11 @@ fn lesser(lowest: Option<u32>, level: u32) -> u32
 /// The least system that is not placed, is of this level, and whose predecessors are all placed.
 fn next_placed(systems: &[System], placed: &[bool], lowest: u32) -> Option<usize>
     requires { length systems.now ≡ length placed.now }
-    ensures found { IfSome result (λ n. (n < length systems.now) × (can_place systems.now placed.now lowest n ≡ true) × ((k : ℕ) → k < n → can_place systems.now placed.now lowest k ≡ false)) }
-    ensures none { IfNone result ((k : ℕ) → k < length systems.now → can_place systems.now placed.now lowest k ≡ false) }
+    ensures found { IfSome result (λ n. (n < length systems.now)
+        × (can_place systems.now placed.now lowest n ≡ true)
+        × ((k : ℕ) → k < n → can_place systems.now placed.now lowest k ≡ false)) }
+    ensures none { IfNone result ((k : ℕ) → k < length systems.now
+        → can_place systems.now placed.now lowest k ≡ false) }
 {
     for (number, system) in systems.iter().enumerate() {
         if !placed[number]

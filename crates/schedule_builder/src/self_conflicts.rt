@@ -10,7 +10,9 @@ use access_set::self_conflict::conflicts_within;
 
 /// The first system whose parameters conflict among themselves.
 pub(crate) fn first_conflicting(desc: &ScheduleDesc) -> Option<usize>
-    ensures found { IfSome result (λ n. (n < length desc.now.systems) × ConflictWithin (declared_at desc.now n).params × ((m : ℕ) → m < n → ConflictWithin (declared_at desc.now m).params → ⊥)) }
+    ensures found { IfSome result (λ n. (n < length desc.now.systems)
+        × ConflictWithin (declared_at desc.now n).params
+        × ((m : ℕ) → m < n → ConflictWithin (declared_at desc.now m).params → ⊥)) }
     ensures none { IfNone result (HasNoSelfConflict desc.now) }
 {
     for number in 0..desc.systems().len() {

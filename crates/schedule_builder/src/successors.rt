@@ -30,7 +30,8 @@ impl Successors {
         system: u32,
     ) -> Result<Self, AllocError>
         requires { length before.now ≤ 256 }
-        ensures { IfOk result (IsListing (λ m. (m < length before.now) × (contains (get_or before.now m []) system ≡ true))) }
+        ensures { IfOk result (IsListing (λ m. (m < length before.now)
+            × (contains (get_or before.now m []) system ≡ true))) }
     {
         let mut systems = Vec::new(alloc);
         for (number, row) in before.iter().enumerate() {

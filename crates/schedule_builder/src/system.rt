@@ -31,13 +31,18 @@ impl Model for System {
 
     ghost coded = { system_code };
 
-    ghost view = { λ s. record { params = s.params; predecessors = s.predecessors.items; level = s.level } };
+    ghost view = { λ s. record {
+      params = s.params;
+      predecessors = s.predecessors.items;
+      level = s.level;
+    } };
 }
 
 impl System {
     /// A system of its parts.
     pub(crate) fn new(params: Params, predecessors: Vec<u32>, level: u32) -> Self
-        ensures { result ≡ record { params = params; predecessors = predecessors.items; level = level } }
+        ensures { result
+            ≡ record { params = params; predecessors = predecessors.items; level = level } }
     {
         System {
             params,

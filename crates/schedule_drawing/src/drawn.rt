@@ -33,9 +33,11 @@ pub fn draw_schedule(
     sets: &[Vec<u32>],
     pairs: &[Pair],
 ) -> Result<Drawn, AllocError>
-    ensures shapes { IfOk result (λ drawn. drawn.shapes.items ≡ schedule_shapes built.now (map (λ members. members.items) sets.now) pairs.now) }
+    ensures shapes { IfOk result (λ drawn. drawn.shapes.items
+        ≡ schedule_shapes built.now (map (λ members. members.items) sets.now) pairs.now) }
     ensures width { IfOk result (λ drawn. drawn.width ≡ drawn_width built.now) }
-    ensures height { IfOk result (λ drawn. drawn.height ≡ drawn_height built.now (map (λ members. members.items) sets.now)) }
+    ensures height { IfOk result (λ drawn. drawn.height
+        ≡ drawn_height built.now (map (λ members. members.items) sets.now)) }
 {
     let holders = holders_of(alloc, built, sets)?;
     let leaders = leaders_of(alloc, built, holders.as_slice())?;
@@ -67,7 +69,8 @@ fn add_things(
     leaders: &[u32],
     pairs: &[Pair],
 ) -> Result<(), AllocError>
-    ensures { OnOk result (shapes.new.items ≡ shapes.old.items ++ things_shapes built.now holders.now leaders.now pairs.now) }
+    ensures { OnOk result (shapes.new.items
+        ≡ shapes.old.items ++ things_shapes built.now holders.now leaders.now pairs.now) }
 {
     add_all_edges(shapes, built, leaders)?;
     add_boxes(shapes, built, holders, leaders)?;
@@ -97,7 +100,9 @@ fn add_sets(
     leaders: &[u32],
     sets: &[Vec<u32>],
 ) -> Result<(), AllocError>
-    ensures { OnOk result (shapes.new.items ≡ shapes.old.items ++ sets_from built.now leaders.now 0 (map (λ members. members.items) sets.now)) }
+    ensures { OnOk result (shapes.new.items
+        ≡ shapes.old.items
+        ++ sets_from built.now leaders.now 0 (map (λ members. members.items) sets.now)) }
 {
     let mut number = 0u32;
     for members in sets {
@@ -115,7 +120,9 @@ fn add_frames(
     members: &[u32],
     set: u32,
 ) -> Result<(), AllocError>
-    ensures { OnOk result (shapes.new.items ≡ shapes.old.items ++ flat_map (frame_shapes built.now leaders.now members.now set) members.now) }
+    ensures { OnOk result (shapes.new.items
+        ≡ shapes.old.items
+        ++ flat_map (frame_shapes built.now leaders.now members.now set) members.now) }
 {
     for member in members {
         add_frame(shapes, built, leaders, members, set, *member)?;
@@ -125,7 +132,8 @@ fn add_frames(
 
 // Adds all edges, by the systems to which they lead.
 fn add_all_edges(shapes: &mut Vec<Shape>, built: &Built, leaders: &[u32]) -> Result<(), AllocError>
-    ensures { OnOk result (shapes.new.items ≡ shapes.old.items ++ flat_map (edges_shapes built.now leaders.now) built.now.order) }
+    ensures { OnOk result (shapes.new.items
+        ≡ shapes.old.items ++ flat_map (edges_shapes built.now leaders.now) built.now.order) }
 {
     let order = built.order();
     for system in order {
@@ -141,7 +149,9 @@ fn add_boxes(
     holders: &[Option<u32>],
     leaders: &[u32],
 ) -> Result<(), AllocError>
-    ensures { OnOk result (shapes.new.items ≡ shapes.old.items ++ flat_map (box_shapes built.now holders.now leaders.now) built.now.order) }
+    ensures { OnOk result (shapes.new.items
+        ≡ shapes.old.items
+        ++ flat_map (box_shapes built.now holders.now leaders.now) built.now.order) }
 {
     let order = built.order();
     for system in order {
@@ -152,7 +162,8 @@ fn add_boxes(
 
 // Adds all conditions.
 fn add_conditions(shapes: &mut Vec<Shape>, built: &Built, leaders: &[u32]) -> Result<(), AllocError>
-    ensures { OnOk result (shapes.new.items ≡ shapes.old.items ++ conditions_from built.now leaders.now 0 built.now.conditions) }
+    ensures { OnOk result (shapes.new.items
+        ≡ shapes.old.items ++ conditions_from built.now leaders.now 0 built.now.conditions) }
 {
     let mut number = 0u32;
     let conditions = built.conditions();
@@ -171,7 +182,9 @@ fn add_diamonds(
     condition: u32,
     covers: &[u32],
 ) -> Result<(), AllocError>
-    ensures { OnOk result (shapes.new.items ≡ shapes.old.items ++ flat_map (diamond_shapes built.now leaders.now condition) covers.now) }
+    ensures { OnOk result (shapes.new.items
+        ≡ shapes.old.items
+        ++ flat_map (diamond_shapes built.now leaders.now condition) covers.now) }
 {
     for system in covers {
         add_diamond(shapes, built, leaders, condition, *system)?;
@@ -186,7 +199,8 @@ fn add_races(
     leaders: &[u32],
     pairs: &[Pair],
 ) -> Result<(), AllocError>
-    ensures { OnOk result (shapes.new.items ≡ shapes.old.items ++ flat_map (race_shapes built.now leaders.now) pairs.now) }
+    ensures { OnOk result (shapes.new.items
+        ≡ shapes.old.items ++ flat_map (race_shapes built.now leaders.now) pairs.now) }
 {
     for pair in pairs {
         add_race(shapes, built, leaders, *pair)?;

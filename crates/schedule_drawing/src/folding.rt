@@ -17,7 +17,8 @@ pub(crate) fn holders_of(
     built: &Built,
     sets: &[Vec<u32>],
 ) -> Result<Vec<Option<u32>>, AllocError>
-    ensures { IfOk result (λ holders. holders.items ≡ holders_in built.now (map (λ members. members.items) sets.now)) }
+    ensures { IfOk result (λ holders. holders.items
+        ≡ holders_in built.now (map (λ members. members.items) sets.now)) }
 {
     if built.count() <= MOST_SYSTEMS {
         return Ok(Vec::new(alloc));
@@ -31,7 +32,8 @@ fn every_holder(
     built: &Built,
     sets: &[Vec<u32>],
 ) -> Result<Vec<Option<u32>>, AllocError>
-    ensures { IfOk result (λ holders. holders.items ≡ holders_from (map (λ members. members.items) sets.now) 0 built.now.systems) }
+    ensures { IfOk result (λ holders. holders.items
+        ≡ holders_from (map (λ members. members.items) sets.now) 0 built.now.systems) }
 {
     let mut holders = Vec::new(alloc);
     let mut number = 0u32;

@@ -52,7 +52,8 @@ pub(crate) fn add_box(
     leaders: &[u32],
     system: u32,
 ) -> Result<(), AllocError>
-    ensures { OnOk result (shapes.new.items ≡ shapes.old.items ++ box_shapes built.now holders.now leaders.now system) }
+    ensures { OnOk result (shapes.new.items
+        ≡ shapes.old.items ++ box_shapes built.now holders.now leaders.now system) }
 {
     if leader_of(leaders, system) != system {
         return Ok(());
@@ -101,7 +102,8 @@ pub(crate) fn add_edges(
     leaders: &[u32],
     system: u32,
 ) -> Result<(), AllocError>
-    ensures { OnOk result (shapes.new.items ≡ shapes.old.items ++ edges_shapes built.now leaders.now system) }
+    ensures { OnOk result (shapes.new.items
+        ≡ shapes.old.items ++ edges_shapes built.now leaders.now system) }
 {
     let Some(found) = built.systems().get(system as usize) else {
         return Ok(());
@@ -120,7 +122,8 @@ fn add_edge(
     first: u32,
     second: u32,
 ) -> Result<(), AllocError>
-    ensures { OnOk result (shapes.new.items ≡ shapes.old.items ++ edge_shapes built.now leaders.now second first) }
+    ensures { OnOk result (shapes.new.items
+        ≡ shapes.old.items ++ edge_shapes built.now leaders.now second first) }
 {
     let (level, to_level) = (level_of(built, first), level_of(built, second));
     let (row, to_row) = (
@@ -212,7 +215,8 @@ pub(crate) fn add_frame(
     set: u32,
     system: u32,
 ) -> Result<(), AllocError>
-    ensures { OnOk result (shapes.new.items ≡ shapes.old.items ++ frame_shapes built.now leaders.now members.now set system) }
+    ensures { OnOk result (shapes.new.items
+        ≡ shapes.old.items ++ frame_shapes built.now leaders.now members.now set system) }
 {
     let level = level_of(built, system);
     let row = row_of(built, leaders, system);
@@ -241,7 +245,8 @@ fn add_sides(
     top: u64,
     bottom: u64,
 ) -> Result<(), AllocError>
-    ensures { OnOk result (shapes.new.items ≡ shapes.old.items ++ side_shapes left right top bottom) }
+    ensures { OnOk result (shapes.new.items
+        ≡ shapes.old.items ++ side_shapes left right top bottom) }
 {
     add_set_line(shapes, left, top, left, bottom)?;
     add_set_line(shapes, right, top, right, bottom)
@@ -271,7 +276,8 @@ fn add_set_line(
     to_x: u64,
     to_y: u64,
 ) -> Result<(), AllocError>
-    ensures { OnOk result (shapes.new.items ≡ shapes.old.items ++ Shape.Line x y to_x to_y Style.Set ∷ []) }
+    ensures { OnOk result (shapes.new.items
+        ≡ shapes.old.items ++ Shape.Line x y to_x to_y Style.Set ∷ []) }
 {
     shapes.push(Shape::Line {
         x,
@@ -313,7 +319,8 @@ pub(crate) fn add_diamond(
     condition: u32,
     system: u32,
 ) -> Result<(), AllocError>
-    ensures { OnOk result (shapes.new.items ≡ shapes.old.items ++ diamond_shapes built.now leaders.now condition system) }
+    ensures { OnOk result (shapes.new.items
+        ≡ shapes.old.items ++ diamond_shapes built.now leaders.now condition system) }
 {
     let place = place_among(built.conditions(), condition, system);
     let x = column_x(level_of(built, system)) + 14 + 34 * u64::from(place);
@@ -357,7 +364,8 @@ pub(crate) fn add_race(
     leaders: &[u32],
     pair: Pair,
 ) -> Result<(), AllocError>
-    ensures { OnOk result (shapes.new.items ≡ shapes.old.items ++ race_shapes built.now leaders.now pair) }
+    ensures { OnOk result (shapes.new.items
+        ≡ shapes.old.items ++ race_shapes built.now leaders.now pair) }
 {
     let first = stands_for(built, pair.first, pair.second);
     let (level, to_level) = (level_of(built, first), level_of(built, pair.second));

@@ -46,14 +46,16 @@ fn has_field(field: Field) -> bool
 
 // Whether one of these terms writes a kind.
 fn any_writes(terms: &[Term], kind: Kind) -> bool
-    ensures { result ≡ list_any (λ term. is_number (kind_number kind) (written (term_of term))) terms.now }
+    ensures { result
+        ≡ list_any (λ term. is_number (kind_number kind) (written (term_of term))) terms.now }
 {
     terms.iter().any(|term| term.writes(kind))
 }
 
 // Whether one of these terms fetches a kind.
 fn any_fetches(terms: &[Term], kind: Kind) -> bool
-    ensures { result ≡ list_any (λ term. is_number (kind_number kind) (fetched (term_of term))) terms.now }
+    ensures { result
+        ≡ list_any (λ term. is_number (kind_number kind) (fetched (term_of term))) terms.now }
 {
     terms.iter().any(|term| term.fetches(kind))
 }
@@ -187,7 +189,9 @@ fn pair_cause(
 
 // Whether one of these kinds is named and not fetched.
 fn any_unfetched(kinds: &[Kind], terms: &[Term], named: Mentions) -> bool
-    ensures { result ≡ list_any (λ kind. is_unfetched (map term_of terms.now) named (kind_number kind)) kinds.now }
+    ensures { result
+        ≡ list_any (λ kind. is_unfetched (map term_of terms.now) named (kind_number kind))
+        kinds.now }
 {
     kinds.iter().any(|kind| has_bit(named.kinds, kind.number()) && !fetches(terms, *kind))
 }
@@ -272,7 +276,10 @@ fn insert_cause(
     kind: Kind,
     values: Values,
 ) -> Option<Cause>
-    ensures { result ≡ least (subject_cause params.now (map term_of terms.now) subject) (least (width_cause kind values) (values_cause params.now (map term_of terms.now) event values)) }
+    ensures { result
+        ≡ least (subject_cause params.now (map term_of terms.now) subject) (least
+        (width_cause kind values) (values_cause params.now (map term_of terms.now) event
+        values)) }
 {
     let value = Cause::least(
         width_cause(kind, values),
@@ -289,7 +296,8 @@ fn cause_of(
     after: usize,
     instruction: Instruction,
 ) -> Option<Cause>
-    ensures { result ≡ instruction_cause params.now (map term_of terms.now) event after instruction }
+    ensures { result
+        ≡ instruction_cause params.now (map term_of terms.now) event after instruction }
 {
     match instruction {
         Instruction::Change { target, source, .. } => Cause::least(
@@ -328,7 +336,8 @@ fn command_cause(
     instruction: Instruction,
 ) -> Option<Cause>
     requires { IsCommand instruction }
-    ensures { (after : ℕ) → result ≡ instruction_cause params.now (map term_of terms.now) event after instruction }
+    ensures { (after : ℕ)
+        → result ≡ instruction_cause params.now (map term_of terms.now) event after instruction }
 {
     match instruction {
         Instruction::Spawn { slot } => slot_cause(params, slot),
@@ -428,7 +437,9 @@ pub(crate) fn check_code(
     before: &[Block],
     code: &[Instruction],
 ) -> Result<(), ScriptFault>
-    ensures { code_fault params.now (map term_of terms.now) rounds (map block_of before.now) [] code.now ≡ result_err result }
+    ensures { code_fault params.now (map term_of terms.now) rounds (map block_of before.now) []
+        code.now
+        ≡ result_err result }
 {
     let event = is_at_event(rounds);
     for (instruction, there) in code.iter().enumerate() {

@@ -216,7 +216,8 @@ impl Instruction {
     // The comparison that these words are.
     fn compare(relation: &str, left: &str, right: &str, passed: &str) -> Option<Instruction>
         requires { relation.now ≢ codes "insert" }
-        ensures { Reads AreInstruction (relation.now ∷ left.now ∷ right.now ∷ passed.now ∷ []) result }
+        ensures { Reads AreInstruction (relation.now ∷ left.now ∷ right.now ∷ passed.now ∷ [])
+            result }
     {
         Some(Instruction::Compare {
             relation: Relation::named(relation)?,
@@ -257,7 +258,8 @@ impl Instruction {
 
     // The insertion that these words are, after the first.
     fn insert(subject: &str, kind: &str, values: &[&str]) -> Option<Instruction>
-        ensures { Reads AreInstruction (codes "insert" ∷ subject.now ∷ kind.now ∷ map (λ word. word.now) values.now) result }
+        ensures { Reads AreInstruction
+            (codes "insert" ∷ subject.now ∷ kind.now ∷ map (λ word. word.now) values.now) result }
     {
         Some(Instruction::Insert {
             subject: Subject::read(subject)?,

@@ -29,8 +29,10 @@ pub fn read_whole<R: Read>(
     limit: usize,
 ) -> Result<Vec<u8>, ReadFault>
     ensures within { IfOk result (λ bytes. vec_len bytes ≤ limit) }
-    ensures whole { IfOk result (λ bytes. IfSome (R.remaining reader.old) (λ all. bytes.items ≡ all)) }
-    ensures long { IsErrOf result ReadFault.TooLong → IfSome (R.remaining reader.old) (λ all. limit < length all) }
+    ensures whole { IfOk result (λ bytes. IfSome (R.remaining reader.old) (λ all. bytes.items
+        ≡ all)) }
+    ensures long { IsErrOf result ReadFault.TooLong
+        → IfSome (R.remaining reader.old) (λ all. limit < length all) }
 {
     let mut bytes = Vec::new(alloc);
     let mut buffer = [0u8; 4096];

@@ -30,7 +30,9 @@ pub fn write_whole<W: Write>(writer: &mut W, text: &str) -> Result<(), WriteFaul
 fn write_part<W: Write>(writer: &mut W, bytes: &[u8]) -> Result<usize, WriteFault>
     ensures some { IfOk result (λ count. 0 < count) }
     ensures within { IfOk result (λ count. count ≤ length bytes.now) }
-    ensures taken { MatchResult result (λ count. Appends (W.contents writer.old) (W.contents writer.new) (take count bytes.now)) (λ _. Keeps (W.contents writer.old) (W.contents writer.new)) }
+    ensures taken { MatchResult result
+        (λ count. Appends (W.contents writer.old) (W.contents writer.new) (take count bytes.now))
+        (λ _. Keeps (W.contents writer.old) (W.contents writer.new)) }
 {
     for _ in 0..u64::MAX {
         match writer.write(bytes) {

@@ -48,7 +48,8 @@ pub(crate) fn coverage_of(
 ) -> Result<Vec<Members>, AllocError>
     requires placed { ArePlaced sets items pairs.now }
     requires few { items < 2 ^ 32 }
-    ensures { IfOk result (λ lists. AreCovered (hierarchy_of sets items pairs.now) covered.now lists.items) }
+    ensures { IfOk result (λ lists. AreCovered (hierarchy_of sets items pairs.now) covered.now
+        lists.items) }
 {
     let rows = rows_of(alloc, sets, items, pairs)?;
     let mut lists = Vec::new(alloc);
@@ -81,7 +82,8 @@ fn members_in(
 
 // Adds the number where the test holds.
 fn push_if(numbers: &mut Vec<u32>, number: u32, test: bool) -> Result<(), AllocError>
-    ensures { OnOk result (numbers.new.items ≡ (if test then numbers.old.items ++ number ∷ [] else numbers.old.items)) }
+    ensures { OnOk result (numbers.new.items
+        ≡ (if test then numbers.old.items ++ number ∷ [] else numbers.old.items)) }
 {
     if !test {
         return Ok(());

@@ -20,7 +20,8 @@ pub(crate) fn first_crossing(
 ) -> Result<Option<Order>, AllocError>
     requires placed { ArePlaced sets items pairs.now }
     requires between { All (IsBetween items) orders.now }
-    ensures { IfOk result (TellsCrossing (hierarchy_of sets items pairs.now) (pairs_of orders.now)) }
+    ensures { IfOk result (TellsCrossing (hierarchy_of sets items pairs.now) (pairs_of
+        orders.now)) }
 {
     let lists = places_by_set(alloc, items, pairs)?;
     for order in orders {

@@ -100,7 +100,8 @@ fn push_enters(
     steps: &mut Vec<Order>,
 ) -> Result<(), AllocError>
     requires { items + sets + sets < 2 ^ 64 }
-    ensures { OnOk result (steps.new.items ≡ steps.old.items ++ map (enter_step sets items) pairs.now) }
+    ensures { OnOk result (steps.new.items
+        ≡ steps.old.items ++ map (enter_step sets items) pairs.now) }
 {
     for pair in pairs {
         steps.push(Order {
@@ -119,7 +120,8 @@ fn push_leaves(
     steps: &mut Vec<Order>,
 ) -> Result<(), AllocError>
     requires { items + sets + sets < 2 ^ 64 }
-    ensures { OnOk result (steps.new.items ≡ steps.old.items ++ map (leave_step sets items) pairs.now) }
+    ensures { OnOk result (steps.new.items
+        ≡ steps.old.items ++ map (leave_step sets items) pairs.now) }
 {
     for pair in pairs {
         steps.push(Order {
@@ -138,7 +140,8 @@ fn push_crossings(
     steps: &mut Vec<Order>,
 ) -> Result<(), AllocError>
     requires { items + sets + sets < 2 ^ 64 }
-    ensures { OnOk result (steps.new.items ≡ steps.old.items ++ map (cross_step sets items) orders.now) }
+    ensures { OnOk result (steps.new.items
+        ≡ steps.old.items ++ map (cross_step sets items) orders.now) }
 {
     for order in orders {
         steps.push(Order {

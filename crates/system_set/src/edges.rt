@@ -49,7 +49,8 @@ pub(crate) fn edges_of(
 ) -> Result<Vec<Order>, AllocError>
     requires placed { ArePlaced sets items pairs.now }
     requires between { All (IsBetween items) orders.now }
-    ensures { IfOk result (λ edges. AreEdges (hierarchy_of sets items pairs.now) (pairs_of orders.now) edges.items) }
+    ensures { IfOk result (λ edges. AreEdges (hierarchy_of sets items pairs.now)
+        (pairs_of orders.now) edges.items) }
 {
     let rows = rows_of(alloc, sets, items, pairs)?;
     let mut edges = Vec::new(alloc);
@@ -125,7 +126,8 @@ fn marked_after(
 ) -> Result<Vec<bool>, AllocError>
     requires rows { length rows.now ≡ sets }
     requires between { All (IsBetween items) orders.now }
-    ensures { IfOk result (λ marks. AreMarkedSeconds sets rows.now (pairs_of orders.now) system marks.items) }
+    ensures { IfOk result (λ marks. AreMarkedSeconds sets rows.now (pairs_of orders.now) system
+        marks.items) }
 {
     let mut marks = vec![in alloc; false; items]?;
     for order in orders {
@@ -151,7 +153,8 @@ fn numbers_of(alloc: Global, marks: &[bool]) -> Result<Vec<usize>, AllocError>
 
 // Adds the number where the test holds.
 fn push_number(numbers: &mut Vec<usize>, number: usize, test: bool) -> Result<(), AllocError>
-    ensures { OnOk result (numbers.new.items ≡ (if test then numbers.old.items ++ number ∷ [] else numbers.old.items)) }
+    ensures { OnOk result (numbers.new.items
+        ≡ (if test then numbers.old.items ++ number ∷ [] else numbers.old.items)) }
 {
     if !test {
         return Ok(());
@@ -164,7 +167,8 @@ fn push_number(numbers: &mut Vec<usize>, number: usize, test: bool) -> Result<()
 fn mark_if(marks: &mut Vec<bool>, item: usize, test: bool)
     requires { item < length marks.old.items }
     ensures long { length marks.new.items ≡ length marks.old.items }
-    ensures marked { (n : ℕ) → is_marked marks.new.items n ≡ ((test && (item == n)) || is_marked marks.old.items n) }
+    ensures marked { (n : ℕ)
+        → is_marked marks.new.items n ≡ ((test && (item == n)) || is_marked marks.old.items n) }
 {
     if !test {
         return;
@@ -175,7 +179,9 @@ fn mark_if(marks: &mut Vec<bool>, item: usize, test: bool)
 // Whether a system is a member of one of these items.
 fn is_led_to(sets: usize, rows: &[Reaching], seconds: &[usize], system: usize) -> bool
     requires { length rows.now ≡ sets }
-    ensures { MatchBool result (IsLedTo sets rows.now seconds.now system) (IsLedTo sets rows.now seconds.now system → ⊥) }
+    ensures { MatchBool result (IsLedTo sets rows.now seconds.now system) (IsLedTo sets rows.now
+        seconds.now system
+        → ⊥) }
 {
     for second in seconds {
         if is_member_of(sets, rows, *second, system) {
@@ -197,7 +203,8 @@ fn push_edges(
     requires rows { length rows.now ≡ sets }
     requires system { sets ≤ system }
     requires few { sets ≤ items }
-    ensures { OnOk result (HasEdgesTo sets rows.now seconds.now system items edges.old.items edges.new.items) }
+    ensures { OnOk result (HasEdgesTo sets rows.now seconds.now system items edges.old.items
+        edges.new.items) }
 {
     for other in sets..items {
         let edge = Order {
@@ -211,7 +218,8 @@ fn push_edges(
 
 // Adds the edge where the test holds.
 fn push_if(edges: &mut Vec<Order>, edge: Order, test: bool) -> Result<(), AllocError>
-    ensures { OnOk result (edges.new.items ≡ (if test then edges.old.items ++ edge ∷ [] else edges.old.items)) }
+    ensures { OnOk result (edges.new.items
+        ≡ (if test then edges.old.items ++ edge ∷ [] else edges.old.items)) }
 {
     if !test {
         return Ok(());

@@ -59,7 +59,8 @@ impl SetHierarchy {
     pub fn put(&mut self, item: usize, set: usize) -> Result<(), AllocError>
         requires item_known { item < self.old.items }
         requires set_known { set < self.old.sets }
-        ensures ok { OnOk result (self.new ≡ record self.old { inside = self.old.inside ++ (item, set) ∷ [] }) }
+        ensures ok { OnOk result (self.new
+            ≡ record self.old { inside = self.old.inside ++ (item, set) ∷ [] }) }
         ensures err { OnErr result (self.new ≡ self.old) }
     {
         self.inside.push(Order {

@@ -18,7 +18,8 @@ pub(crate) fn members_of(
     set: usize,
 ) -> Result<Vec<usize>, AllocError>
     requires { ArePlaced sets items pairs.now }
-    ensures { IfOk result (λ members. AreMembers (hierarchy_of sets items pairs.now) set members.items) }
+    ensures { IfOk result (λ members. AreMembers (hierarchy_of sets items pairs.now) set
+        members.items) }
 {
     let lists = places_by_set(alloc, items, pairs)?;
     let marks = marks_of(alloc, items, pairs, lists.as_slice(), set)?;
@@ -72,7 +73,8 @@ fn spread(pairs: &[Order], place: usize, set: usize, marks: &mut [bool])
 // The first pair whose item is not marked, though its set is this one or is marked.
 fn first_open(pairs: &[Order], set: usize, marks: &[bool]) -> Option<usize>
     requires { All (IsBetween (length marks.now)) pairs.now }
-    ensures found { IfSome result (λ place. (place < length pairs.now) × IsOpenAt pairs.now set marks.now place) }
+    ensures found { IfSome result (λ place. (place < length pairs.now)
+        × IsOpenAt pairs.now set marks.now place) }
     ensures none { IfNone result (All (IsSpread marks.now set) pairs.now) }
 {
     for place in 0..pairs.len() {
@@ -112,7 +114,8 @@ fn marked_systems(alloc: Global, sets: usize, marks: &[bool]) -> Result<Vec<usiz
 
 // Adds the item where the test holds.
 fn push_if(members: &mut Vec<usize>, item: usize, test: bool) -> Result<(), AllocError>
-    ensures { OnOk result (members.new.items ≡ (if test then members.old.items ++ item ∷ [] else members.old.items)) }
+    ensures { OnOk result (members.new.items
+        ≡ (if test then members.old.items ++ item ∷ [] else members.old.items)) }
 {
     if !test {
         return Ok(());

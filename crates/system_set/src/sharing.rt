@@ -66,8 +66,10 @@ fn least_shared(
 // The least system that is marked in both lists.
 fn least_in_both(sets: usize, first: &[bool], second: &[bool]) -> Option<usize>
     requires { length first.now ≡ length second.now }
-    ensures found { IfSome result (λ n. IsBoth sets first.now second.now n × ((m : ℕ) → m < n → IsBoth sets first.now second.now m → ⊥)) }
-    ensures none { IfNone result ((m : ℕ) → m < length first.now → IsBoth sets first.now second.now m → ⊥) }
+    ensures found { IfSome result (λ n. IsBoth sets first.now second.now n
+        × ((m : ℕ) → m < n → IsBoth sets first.now second.now m → ⊥)) }
+    ensures none { IfNone result ((m : ℕ) → m < length first.now
+        → IsBoth sets first.now second.now m → ⊥) }
 {
     for item in sets..first.len() {
         if first[item] && second[item] {

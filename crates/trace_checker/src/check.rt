@@ -89,7 +89,8 @@ pub fn check_all(alloc: Global, built: &Built, traces: &[Trace]) -> Result<Vec<V
 /// recorded last. Recorded answers and kind sets are not compared with a world.
 pub fn check(alloc: Global, built: &Built, trace: &Trace) -> Result<Verdict, AllocError>
     ensures verdict { IfOk result (λ verdict. IsVerdict built.now trace.now verdict) }
-    ensures only { (other : Verdict) → IsVerdict built.now trace.now other → IfOk result (λ verdict. verdict ≡ other) }
+    ensures only { (other : Verdict) → IsVerdict built.now trace.now other
+        → IfOk result (λ verdict. verdict ≡ other) }
 {
     trace.prove_law();
     let mut core = opened(alloc, built, trace)?;
@@ -123,9 +124,13 @@ fn opened<'a>(alloc: Global, built: &'a Built, trace: &Trace) -> Result<Core<'a>
 
 // Takes a step of a recorded run, up to which there are so many sync points.
 fn take(core: &mut Core, step: Step, trace: &Trace, place: usize) -> Result<(), StepFault>
-    requires listed { (k : ℕ) → step ≡ Synced k → MatchOption trace.now.sets (Unit {0}) (λ lists. place < length lists) }
-    ensures fault { (sets : Option (List (List ℕ))) (h : List AStep) → Stands core.old sets h → IfErr result (λ fault. IsFirstFault (recording core.old.schedule sets) h step fault) }
-    ensures stands { OnOk result ((h : List AStep) → Stands core.old (sets_so_far trace.now.sets h) h → place ≡ syncs_in (step ∷ h) → Stands core.new (sets_so_far trace.now.sets (step ∷ h)) (step ∷ h)) }
+    requires listed { (k : ℕ) → step ≡ Synced k
+        → MatchOption trace.now.sets (Unit {0}) (λ lists. place < length lists) }
+    ensures fault { (sets : Option (List (List ℕ))) (h : List AStep) → Stands core.old sets h
+        → IfErr result (λ fault. IsFirstFault (recording core.old.schedule sets) h step fault) }
+    ensures stands { OnOk result ((h : List AStep)
+        → Stands core.old (sets_so_far trace.now.sets h) h → place ≡ syncs_in (step ∷ h)
+        → Stands core.new (sets_so_far trace.now.sets (step ∷ h)) (step ∷ h)) }
     ensures schedule { core.new.schedule ≡ core.old.schedule }
 {
     let Step::Sync(point) = step else {
@@ -141,8 +146,14 @@ fn take(core: &mut Core, step: Step, trace: &Trace, place: usize) -> Result<(), 
 // whom.
 fn pass(core: &mut Core, lists: &[KindSets], point: u32, place: usize) -> Result<(), StepFault>
     requires { place < length lists.now }
-    ensures fault { (sets : Option (List (List ℕ))) (h : List AStep) → Stands core.old sets h → IfErr result (λ fault. IsFirstFault (recording core.old.schedule sets) h (Synced point) fault) }
-    ensures stands { OnOk result ((h : List AStep) → Stands core.old (sets_so_far (Some lists.now) h) h → place ≡ syncs_in (Synced point ∷ h) → Stands core.new (sets_so_far (Some lists.now) (Synced point ∷ h)) (Synced point ∷ h)) }
+    ensures fault { (sets : Option (List (List ℕ))) (h : List AStep) → Stands core.old sets h
+        → IfErr result (λ fault. IsFirstFault (recording core.old.schedule sets) h (Synced point)
+        fault) }
+    ensures stands { OnOk result ((h : List AStep)
+        → Stands core.old (sets_so_far (Some lists.now) h) h
+        → place ≡ syncs_in (Synced point ∷ h)
+        → Stands core.new (sets_so_far (Some lists.now) (Synced point ∷ h)) (Synced point
+        ∷ h)) }
     ensures schedule { core.new.schedule ≡ core.old.schedule }
 {
     if place > 0 && lists[place].is_same(&lists[place - 1]) {

@@ -71,8 +71,10 @@ pub enum Due {
 pub fn read_traces(alloc: Global, text: &[u8]) -> Result<Vec<Trace>, TextFault>
     ensures read { IfOk result (λ traces. text.now ≡ trace_text traces.items) }
     ensures fitting { IfOk result (λ traces. AreFitting traces.items) }
-    ensures only { (runs : List Recorded) → AreFitting runs → text.now ≡ trace_text runs → IfErr result (λ fault. fault ≡ TextFault.Memory) }
-    ensures same { (runs : List Recorded) → AreFitting runs → text.now ≡ trace_text runs → IfOk result (λ traces. traces.items ≡ runs) }
+    ensures only { (runs : List Recorded) → AreFitting runs → text.now ≡ trace_text runs
+        → IfErr result (λ fault. fault ≡ TextFault.Memory) }
+    ensures same { (runs : List Recorded) → AreFitting runs → text.now ≡ trace_text runs
+        → IfOk result (λ traces. traces.items ≡ runs) }
     ensures line { (n : ℕ) → IsErrOf result (TextFault.Line n) → IsLineFault n text.now }
     ensures order { (n : ℕ) → IsErrOf result (TextFault.Order n) → IsOrderFault n text.now }
     ensures lists { (n : ℕ) → IsErrOf result (TextFault.Lists n) → IsListsFault n text.now }
@@ -173,7 +175,8 @@ fn add_line(
     requires in_order { IsOutOfOrder (begun_runs traces.old.items due) line → ⊥ }
     requires placed { is_misplaced due line ≡ false }
     ensures begun { IfOk result (λ next. AreBegun lists traces.new.items next) }
-    ensures added { IfOk result (λ next. lines_so_far traces.new.items next ≡ lines_so_far traces.old.items due ++ line ∷ []) }
+    ensures added { IfOk result (λ next. lines_so_far traces.new.items next
+        ≡ lines_so_far traces.old.items due ++ line ∷ []) }
 {
     match line {
         Line::Begin(_) => begin(alloc, lists, traces),
@@ -186,7 +189,8 @@ fn add_line(
 fn begin(alloc: Global, lists: bool, traces: &mut Vec<Trace>) -> Result<Due, AllocError>
     requires { AreBegun lists traces.old.items Nothing }
     ensures begun { IfOk result (λ next. AreBegun lists traces.new.items next) }
-    ensures added { IfOk result (λ next. lines_so_far traces.new.items next ≡ lines_from 1 traces.old.items ++ Begin (suc (length traces.old.items)) ∷ []) }
+    ensures added { IfOk result (λ next. lines_so_far traces.new.items next
+        ≡ lines_from 1 traces.old.items ++ Begin (suc (length traces.old.items)) ∷ []) }
 {
     if lists {
         return Ok(Due::Opening);
@@ -200,7 +204,8 @@ fn take_step(lists: bool, traces: &mut Vec<Trace>, step: Step) -> Result<Due, Al
     requires begun { AreBegun lists traces.old.items Nothing }
     requires filled { 0 < length traces.old.items }
     ensures begun { IfOk result (λ next. AreBegun lists traces.new.items next) }
-    ensures added { IfOk result (λ next. lines_so_far traces.new.items next ≡ lines_from 1 traces.old.items ++ Take step ∷ []) }
+    ensures added { IfOk result (λ next. lines_so_far traces.new.items next
+        ≡ lines_from 1 traces.old.items ++ Take step ∷ []) }
 {
     if lists {
         if let Step::Sync(sync) = step {
@@ -224,7 +229,8 @@ fn note_sets(
     requires begun { AreBegun true traces.old.items due }
     requires due { is_due due ≡ true }
     ensures begun { IfOk result (λ next. AreBegun true traces.new.items next) }
-    ensures added { IfOk result (λ next. lines_so_far traces.new.items next ≡ lines_so_far traces.old.items due ++ There sets ∷ []) }
+    ensures added { IfOk result (λ next. lines_so_far traces.new.items next
+        ≡ lines_so_far traces.old.items due ++ There sets ∷ []) }
 {
     match due {
         Due::Nothing => unreachable!(),

@@ -83,10 +83,17 @@ pub fn replay<B: Body>(
     trace: &Trace,
 ) -> Result<State, ReplayFault>
     requires { Suits B.fits built.now (map Some bodies.old) state }
-    ensures replayed { IsReplay built.now (meanings B.meaning built.now (map Some bodies.old)) state trace.now result }
-    ensures only { (other : Result Now ReplayFault) → IsReplay built.now (meanings B.meaning built.now (map Some bodies.old)) state trace.now other → (other ≡ Err (ReplayFault.Run RunFault.Memory)) ⊎ ((result ≡ Err (ReplayFault.Run RunFault.Memory)) ⊎ (result ≡ other)) }
-    ensures agreement { IfOk result (λ final. AgreesWithAll widths built.now (meanings B.meaning built.now (map Some bodies.old)) state 1 final) }
-    ensures meanings { meanings B.meaning built.now (map Some bodies.new) ≡ meanings B.meaning built.now (map Some bodies.old) }
+    ensures replayed { IsReplay built.now (meanings B.meaning built.now (map Some bodies.old)) state
+        trace.now result }
+    ensures only { (other : Result Now ReplayFault)
+        → IsReplay built.now (meanings B.meaning built.now (map Some bodies.old)) state trace.now
+        other
+        → (other ≡ Err (ReplayFault.Run RunFault.Memory))
+        ⊎ ((result ≡ Err (ReplayFault.Run RunFault.Memory)) ⊎ (result ≡ other)) }
+    ensures agreement { IfOk result (λ final. AgreesWithAll widths built.now
+        (meanings B.meaning built.now (map Some bodies.old)) state 1 final) }
+    ensures meanings { meanings B.meaning built.now (map Some bodies.new)
+        ≡ meanings B.meaning built.now (map Some bodies.old) }
     ensures suits { IfOk result (λ final. Suits B.fits built.now (map Some bodies.new) final) }
 {
     built.prove_law();
@@ -114,15 +121,20 @@ fn take_steps<B: Body>(
     run: &mut RunState,
     trace: &Trace,
 ) -> Result<(), ReplayFault>
-    requires stands { StandsBefore B.fits built.now (map Some bodies.old) run.old.deferred run.old.state }
+    requires stands { StandsBefore B.fits built.now (map Some bodies.old) run.old.deferred
+        run.old.state }
     requires keep { AllKeepWithin built.now (meanings B.meaning built.now (map Some bodies.old)) }
     requires lawful { IsLawful (recording built.now trace.now.sets) trace.now.steps }
     requires complete { IsComplete (recording built.now trace.now.sets) trace.now.steps }
-    ensures replayed { OnOk result (IsReplay built.now (meanings B.meaning built.now (map Some bodies.old)) run.old.state.state trace.now (Ok run.new.state.state)) }
-    ensures stopped { IfErr result (IsReplayFault built.now (meanings B.meaning built.now (map Some bodies.old)) run.old.state.state trace.now) }
+    ensures replayed { OnOk result (IsReplay built.now
+        (meanings B.meaning built.now (map Some bodies.old)) run.old.state.state trace.now
+        (Ok run.new.state.state)) }
+    ensures stopped { IfErr result (IsReplayFault built.now
+        (meanings B.meaning built.now (map Some bodies.old)) run.old.state.state trace.now) }
     ensures suits { OnOk result (Suits B.fits built.now (map Some bodies.new) run.new.state.state) }
     ensures out { OnOk result (AreOut (store_of run.new.state) []) }
-    ensures meanings { meanings B.meaning built.now (map Some bodies.new) ≡ meanings B.meaning built.now (map Some bodies.old) }
+    ensures meanings { meanings B.meaning built.now (map Some bodies.new)
+        ≡ meanings B.meaning built.now (map Some bodies.old) }
 {
     built.prove_law();
     run.state.prove_law();
@@ -149,8 +161,10 @@ fn compare_sets(
     number: usize,
 ) -> Result<(), ReplayFault>
     requires listed { MatchOption trace.now.sets (Unit {0}) (λ lists. place < length lists) }
-    ensures right { OnOk result (IsListOf (list_at trace.now.sets place) (Some (run_with run.now.state.state run.now.deferred))) }
-    ensures wrong { IfErr result (AreWrongHere (list_at trace.now.sets place) run.now.state.state.world.slots number) }
+    ensures right { OnOk result (IsListOf (list_at trace.now.sets place) (Some (run_with
+        run.now.state.state run.now.deferred))) }
+    ensures wrong { IfErr result (AreWrongHere (list_at trace.now.sets place)
+        run.now.state.state.world.slots number) }
 {
     let Some(lists) = trace.sets() else {
         return Ok(());
@@ -171,8 +185,12 @@ fn compare_after(
     number: usize,
 ) -> Result<(), ReplayFault>
     requires listed { MatchOption trace.now.sets (Unit {0}) (λ lists. place < length lists) }
-    ensures right { OnOk result ((k : ℕ) → step ≡ Sync k → IsListOf (list_at trace.now.sets place) (Some (run_with run.now.state.state run.now.deferred))) }
-    ensures wrong { IfErr result (λ fault. ((k : ℕ) × (step ≡ Sync k)) × AreWrongHere (list_at trace.now.sets place) run.now.state.state.world.slots number fault) }
+    ensures right { OnOk result ((k : ℕ) → step ≡ Sync k
+        → IsListOf (list_at trace.now.sets place) (Some (run_with run.now.state.state
+        run.now.deferred))) }
+    ensures wrong { IfErr result (λ fault. ((k : ℕ) × (step ≡ Sync k))
+        × AreWrongHere (list_at trace.now.sets place) run.now.state.state.world.slots number
+        fault) }
 {
     let Step::Sync(_) = step else {
         return Ok(());
@@ -189,16 +207,26 @@ pub fn take<B: Body>(
     step: Step,
     number: usize,
 ) -> Result<(), ReplayFault>
-    requires stands { StandsBetween B.fits built.now (map Some bodies.old) run.old.deferred run.old.state }
+    requires stands { StandsBetween B.fits built.now (map Some bodies.old) run.old.deferred
+        run.old.state }
     requires keep { AllKeepWithin built.now (meanings B.meaning built.now (map Some bodies.old)) }
     requires known { IsKnown built.now step }
     requires fresh { (n : ℕ) → step ≡ Begin n → commands_at run.old.deferred n ≡ [] }
-    requires given { (n : ℕ) → step ≡ Begin n → AreIdsFor built.now n (grants_at run.old.deferred n) }
-    requires waits { (k n : ℕ) → step ≡ Sync k → level_of built.now n ≡ suc k → commands_at run.old.deferred n ≡ [] }
-    ensures taken { OnOk result (IsStepTaken built.now (meanings B.meaning built.now (map Some bodies.old)) (run_with run.old.state.state run.old.deferred) step (run_with run.new.state.state run.new.deferred)) }
-    ensures stopped { IfErr result (IsStepFault built.now (meanings B.meaning built.now (map Some bodies.old)) (run_with run.old.state.state run.old.deferred) step number) }
-    ensures stands { OnOk result (StandsBetween B.fits built.now (map Some bodies.new) run.new.deferred run.new.state) }
-    ensures meanings { meanings B.meaning built.now (map Some bodies.new) ≡ meanings B.meaning built.now (map Some bodies.old) }
+    requires given { (n : ℕ) → step ≡ Begin n
+        → AreIdsFor built.now n (grants_at run.old.deferred n) }
+    requires waits { (k n : ℕ) → step ≡ Sync k → level_of built.now n ≡ suc k
+        → commands_at run.old.deferred n ≡ [] }
+    ensures taken { OnOk result (IsStepTaken built.now
+        (meanings B.meaning built.now (map Some bodies.old))
+        (run_with run.old.state.state run.old.deferred) step (run_with run.new.state.state
+        run.new.deferred)) }
+    ensures stopped { IfErr result (IsStepFault built.now
+        (meanings B.meaning built.now (map Some bodies.old))
+        (run_with run.old.state.state run.old.deferred) step number) }
+    ensures stands { OnOk result (StandsBetween B.fits built.now (map Some bodies.new)
+        run.new.deferred run.new.state) }
+    ensures meanings { meanings B.meaning built.now (map Some bodies.new)
+        ≡ meanings B.meaning built.now (map Some bodies.old) }
 {
     run.state.prove_law();
     match step {
@@ -229,14 +257,23 @@ fn start<B: Body>(
     system: u32,
 ) -> Result<(), Stop>
     requires known { system < length built.now.systems }
-    requires stands { StandsBetween B.fits built.now (map Some bodies.old) run.old.deferred run.old.state }
+    requires stands { StandsBetween B.fits built.now (map Some bodies.old) run.old.deferred
+        run.old.state }
     requires keep { AllKeepWithin built.now (meanings B.meaning built.now (map Some bodies.old)) }
     requires fresh { commands_at run.old.deferred system ≡ [] }
     requires given { AreIdsFor built.now system (grants_at run.old.deferred system) }
-    ensures taken { OnOk result (IsStepTaken built.now (meanings B.meaning built.now (map Some bodies.old)) (run_with run.old.state.state run.old.deferred) (Begin system) (run_with run.new.state.state run.new.deferred)) }
-    ensures stopped { IfErr result (StopsBy false (λ met. serial_cause_of built.now (meanings B.meaning built.now (map Some bodies.old)) (Begin system) (run_with run.old.state.state run.old.deferred) ≡ Some met)) }
-    ensures stands { OnOk result (StandsBetween B.fits built.now (map Some bodies.new) run.new.deferred run.new.state) }
-    ensures meanings { meanings B.meaning built.now (map Some bodies.new) ≡ meanings B.meaning built.now (map Some bodies.old) }
+    ensures taken { OnOk result (IsStepTaken built.now
+        (meanings B.meaning built.now (map Some bodies.old))
+        (run_with run.old.state.state run.old.deferred) (Begin system) (run_with
+        run.new.state.state run.new.deferred)) }
+    ensures stopped { IfErr result (StopsBy false (λ met. serial_cause_of built.now
+        (meanings B.meaning built.now (map Some bodies.old)) (Begin system) (run_with
+        run.old.state.state run.old.deferred)
+        ≡ Some met)) }
+    ensures stands { OnOk result (StandsBetween B.fits built.now (map Some bodies.new)
+        run.new.deferred run.new.state) }
+    ensures meanings { meanings B.meaning built.now (map Some bodies.new)
+        ≡ meanings B.meaning built.now (map Some bodies.old) }
 {
     run.state.prove_law();
     run.state.prove_shape();
@@ -249,7 +286,8 @@ fn start<B: Body>(
 // Runs the body of a system on a view in which nothing is written yet.
 fn run_body<B: Body>(bodies: &mut [B], system: usize, view: &mut View) -> Result<(), BodyFault>
     requires known { system < length bodies.old }
-    requires fits { (body : B) → slice_get bodies.old system ≡ Some body → IsTrue (B.fits body view.old.params) }
+    requires fits { (body : B) → slice_get bodies.old system ≡ Some body
+        → IsTrue (B.fits body view.old.params) }
     requires showing { CanBeShown view.old.params view.old.shown }
     requires untouched { view.old.outcome ≡ untouched view.old.params view.old.shown }
     ensures { HasRun B.meaning B.fits bodies.old system view.old bodies.new view.new result }

@@ -35,7 +35,10 @@ pub(crate) fn sets_of(alloc: Global, bytes: &[u8]) -> Result<KindSets, ReadError
 
 // A number behind a space, and what follows it.
 fn next_number(bytes: &[u8]) -> Option<(u32, &[u8])>
-    ensures found { IfSome result (λ found. SpellsOnly IsNumberBefore bytes.now (found.0, found.1.now)) }
+    ensures found { IfSome result (λ found. SpellsOnly IsNumberBefore bytes.now (
+      found.0,
+      found.1.now,
+    )) }
     ensures none { IfNone result (SpellsNone IsNumberBefore bytes.now) }
 {
     let [b' ', tail @ ..] = bytes else {

@@ -53,7 +53,8 @@ pub fn text_of_traces(alloc: Global, traces: &[Trace], limit: usize) -> Result<S
 
 /// Adds the lines of a run of this number to a text.
 pub fn push_run(text: &mut String, number: u32, trace: &Trace) -> Result<(), AllocError>
-    ensures { OnOk result (string_bytes text.new ≡ string_bytes text.old ++ lines_text (run_lines number trace.now)) }
+    ensures { OnOk result (string_bytes text.new
+        ≡ string_bytes text.old ++ lines_text (run_lines number trace.now)) }
 {
     trace.prove_law();
     let steps = trace.steps();
@@ -73,7 +74,8 @@ pub fn push_run(text: &mut String, number: u32, trace: &Trace) -> Result<(), All
 // Adds the line of the kind sets that a run records at a place, where it records them.
 fn push_sets(text: &mut String, trace: &Trace, place: usize) -> Result<(), AllocError>
     requires { AreWithin place trace.now.sets }
-    ensures { OnOk result (string_bytes text.new ≡ string_bytes text.old ++ lines_text (sets_line trace.now.sets place)) }
+    ensures { OnOk result (string_bytes text.new
+        ≡ string_bytes text.old ++ lines_text (sets_line trace.now.sets place)) }
 {
     let Some(lists) = trace.sets() else {
         return Ok(());
@@ -84,7 +86,8 @@ fn push_sets(text: &mut String, trace: &Trace, place: usize) -> Result<(), Alloc
 
 // Adds a line and its end.
 fn push_line(text: &mut String, line: Line) -> Result<(), AllocError>
-    ensures { OnOk result (string_bytes text.new ≡ string_bytes text.old ++ lines_text (line ∷ [])) }
+    ensures { OnOk result (string_bytes text.new
+        ≡ string_bytes text.old ++ lines_text (line ∷ [])) }
 {
     writeln!(text, "{line}")
 }

@@ -20,7 +20,9 @@ pub struct Ticket<J> {
 
 // Where the ticket of a number lies.
 fn place_of<J>(tickets: &[Ticket<J>], number: JobNumber) -> Option<usize>
-    ensures { MatchOption result ((at : ℕ) (t : _) → get_elem? tickets.now at ≡ some t → t.number ≢ number) (λ p. (t : _) × (get_elem? tickets.now p ≡ some t) × (t.number ≡ number)) }
+    ensures { MatchOption result
+        ((at : ℕ) (t : _) → get_elem? tickets.now at ≡ some t → t.number ≢ number) (λ p. (t : _)
+        × (get_elem? tickets.now p ≡ some t) × (t.number ≡ number)) }
 {
     for place in 0..tickets.len() {
         if tickets[place].number == number {
@@ -61,9 +63,11 @@ fn collect_one_of<J: JoinThreads, T: Task>(
     mode: &J,
 ) -> Option<(usize, T::Outcome)>
     requires { AreOut tickets.now (lead_view lead.old) }
-    ensures some { IfSome result (λ r. (t : _) × (get_elem? tickets.now r.0 ≡ some t) × T.answers t.job.value r.1 × AreOut (remove tickets.now r.0) (lead_view lead.new)) }
+    ensures some { IfSome result (λ r. (t : _) × (get_elem? tickets.now r.0 ≡ some t)
+        × T.answers t.job.value r.1 × AreOut (remove tickets.now r.0) (lead_view lead.new)) }
     ensures none { IfNone result (AreOut tickets.now (lead_view lead.new)) }
-    ensures all { IfSome result (λ r. HasAllOut tickets.now (lead_view lead.old) → HasAllOut (remove tickets.now r.0) (lead_view lead.new)) }
+    ensures all { IfSome result (λ r. HasAllOut tickets.now (lead_view lead.old)
+        → HasAllOut (remove tickets.now r.0) (lead_view lead.new)) }
     ensures open { (lead_view lead.new).closed ≡ (lead_view lead.old).closed }
     ensures slots { lead_slots lead.new ≡ lead_slots lead.old }
     ensures joins { IsTrue (J.joins mode.now) → IsSome result }
@@ -87,11 +91,13 @@ pub(crate) fn post<T: Task>(
 ) -> Result<(), T::Job>
     requires open { (lead_view lead.old).closed ≡ false }
     requires out { AreOut tickets.old.items (lead_view lead.old) }
-    ensures ok { OnOk result ((t : _) × (t.job.value ≡ job) × (tickets.new.items ≡ tickets.old.items ++ t ∷ [])) }
+    ensures ok { OnOk result ((t : _) × (t.job.value ≡ job)
+        × (tickets.new.items ≡ tickets.old.items ++ t ∷ [])) }
     ensures err { IfErr result (λ back. (back ≡ job) × (tickets.new.items ≡ tickets.old.items)) }
     ensures open { (lead_view lead.new).closed ≡ false }
     ensures out { AreOut tickets.new.items (lead_view lead.new) }
-    ensures all { HasAllOut tickets.old.items (lead_view lead.old) → HasAllOut tickets.new.items (lead_view lead.new) }
+    ensures all { HasAllOut tickets.old.items (lead_view lead.old)
+        → HasAllOut tickets.new.items (lead_view lead.new) }
     ensures slots { lead_slots lead.new ≡ lead_slots lead.old }
 {
     let Ok(()) = tickets.reserve(1) else {
@@ -122,7 +128,9 @@ pub(crate) fn collect<J: JoinThreads, T: Task>(
     requires some { 0 < length tickets.old.items }
     requires out { AreOut tickets.old.items (lead_view lead.old) }
     requires all { gave_up.old ≡ false → HasAllOut tickets.old.items (lead_view lead.old) }
-    ensures some { IfSome result (λ outcome. (i : ℕ) × (t : _) × (get_elem? tickets.old.items i ≡ some t) × T.answers t.job.value outcome × (tickets.new.items ≡ remove tickets.old.items i)) }
+    ensures some { IfSome result (λ outcome. (i : ℕ) × (t : _)
+        × (get_elem? tickets.old.items i ≡ some t) × T.answers t.job.value outcome
+        × (tickets.new.items ≡ remove tickets.old.items i)) }
     ensures none { IfNone result (tickets.new.items ≡ remove tickets.old.items 0) }
     ensures open { (lead_view lead.new).closed ≡ (lead_view lead.old).closed }
     ensures out { AreOut tickets.new.items (lead_view lead.new) }

@@ -82,9 +82,21 @@ impl<B: Body> Pool<B> {
     ) -> Result<(), HandOutFault<B>>
     where
         B: 's,
-        ensures ok { OnOk result (self.new ≡ self.old ++ record { number = start.number; system = start.system; body = start.body; view = start.view.value; there = M.has_scope mode.now } ∷ []) }
+        ensures ok { OnOk result (self.new
+            ≡ self.old
+            ++ record {
+              number = start.number;
+              system = start.system;
+              body = start.body;
+              view = start.view.value;
+              there = M.has_scope mode.now;
+            }
+            ∷ []) }
         ensures err { OnErr result (self.new ≡ self.old) }
-        ensures only { OnErr result ((result ≡ Err (HandOutFault.Memory start)) ⊎ (((result ≡ Err (HandOutFault.NoWorker start)) × (M.has_scope mode.now ≡ true)) ⊎ ((result ≡ Err HandOutFault.Lost) × (M.has_scope mode.now ≡ true) × (M.stands mode.now ≡ false)))) }
+        ensures only { OnErr result ((result ≡ Err (HandOutFault.Memory start))
+            ⊎ (((result ≡ Err (HandOutFault.NoWorker start)) × (M.has_scope mode.now ≡ true))
+            ⊎ ((result ≡ Err HandOutFault.Lost) × (M.has_scope mode.now ≡ true)
+            × (M.stands mode.now ≡ false)))) }
     {
         match &mut self.form {
             Form::Threads(jobs) => {
@@ -107,8 +119,13 @@ impl<B: Body> Pool<B> {
     where
         B: 's,
         requires { 0 < length self.old }
-        ensures ran { IfSome result (λ done. (i : ℕ) × IsSomeAnd (slice_get self.old i) (λ job. Ran B.meaning B.fits job.number job.system job.body job.view done.number done.system done.body done.view.value done.answer) × (self.new ≡ remove self.old i)) }
-        ensures none { IfNone result ((i : ℕ) × IsSomeAnd (slice_get self.old i) (λ job. job.there ≡ true)) }
+        ensures ran { IfSome result (λ done. (i : ℕ)
+            × IsSomeAnd (slice_get self.old i) (λ job. Ran B.meaning B.fits job.number
+            job.system job.body job.view done.number done.system done.body
+            done.view.value done.answer)
+            × (self.new ≡ remove self.old i)) }
+        ensures none { IfNone result ((i : ℕ)
+            × IsSomeAnd (slice_get self.old i) (λ job. job.there ≡ true)) }
         ensures joins { IsTrue (M.joins mode.now) → IsSome result }
         ensures shorter { length self.new + 1 ≡ length self.old }
     {

@@ -21,7 +21,9 @@ use std::thread::{JoinHandle, Scope};
 // Waits for a job. None once it has read that the board is closed, where it can wait.
 fn take<N: Signals, T: Runs>(signals: N, hand: &mut Hand<T>) -> Option<(JobNumber, T::Job)>
     ensures some { IfSome result (λ t. (slot : ℕ) × HasJob (hand_view hand.new) t.0 slot t.1) }
-    ensures none { IsTrue (N.waits signals) → IfNone result ((at : ℕ) × (get_elem? (hand_view hand.new).read at ≡ some (hand_slots hand.old, 1))) }
+    ensures none { IsTrue (N.waits signals)
+        → IfNone result ((at : ℕ)
+        × (get_elem? (hand_view hand.new).read at ≡ some (hand_slots hand.old, 1))) }
 {
     for _ in 0..u64::MAX {
         let heard = hand.bell().heard();
@@ -81,15 +83,30 @@ impl<B: Body> Model for Standing<B> {
 
     ghost Value = { Stand B };
 
-    ghost view = { λ s. record { jobs = map (λ t. record { number = t.job.value.number; system = t.job.value.system; body = t.job.value.body; view = t.job.value.view.value; there = true }) s.tickets.items; workers = length s.workers.items; hands = length s.hands.items; slots = lead_slots s.lead } };
+    ghost view = { λ s. record {
+      jobs = map
+          (λ t. record {
+            number = t.job.value.number;
+            system = t.job.value.system;
+            body = t.job.value.body;
+            view = t.job.value.view.value;
+            there = true;
+          })
+          s.tickets.items;
+      workers = length s.workers.items;
+      hands = length s.hands.items;
+      slots = lead_slots s.lead;
+    } };
 
-    ghost invariant = { λ s. IsTied s.tickets.items (lead_view s.lead) s.gave_up (lead_slots s.lead) (length s.hands.items) (length s.workers.items) };
+    ghost invariant = { λ s. IsTied s.tickets.items (lead_view s.lead) s.gave_up (lead_slots s.lead)
+        (length s.hands.items) (length s.workers.items) };
 }
 
 impl<B: Body> Standing<B> {
     // A board for so many workers, of which none stands yet, and for as many jobs.
     pub(crate) fn open(alloc: Global, count: usize) -> Result<Self, AllocError>
-        ensures { IfOk result (λ s. s ≡ record { jobs = []; workers = 0; hands = count; slots = count }) }
+        ensures { IfOk result (λ s. s
+            ≡ record { jobs = []; workers = 0; hands = count; slots = count }) }
     {
         let (lead, hands) = Board::new(alloc, count, count)?;
         Ok(Standing {
@@ -119,10 +136,12 @@ impl<B: Body> Standing<B> {
     ) -> Result<Start<B>, HandOutFault<B>>
     where
         B: 's,
-        ensures ok { IfOk result (λ kept. (kept ≡ start) × (length self.new.jobs < self.new.workers) × (self.new.workers + self.new.hands ≡ self.old.workers + self.old.hands)) }
+        ensures ok { IfOk result (λ kept. (kept ≡ start) × (length self.new.jobs < self.new.workers)
+            × (self.new.workers + self.new.hands ≡ self.old.workers + self.old.hands)) }
         ensures same { (self.new.jobs ≡ self.old.jobs) × (self.new.slots ≡ self.old.slots) }
         ensures stand { self.old.workers ≤ self.new.workers }
-        ensures only { OnErr result ((result ≡ Err (HandOutFault.Memory start)) ⊎ (result ≡ Err (HandOutFault.NoWorker start))) }
+        ensures only { OnErr result ((result ≡ Err (HandOutFault.Memory start))
+            ⊎ (result ≡ Err (HandOutFault.NoWorker start))) }
     {
         if self.tickets.len() < self.workers.len() {
             return Ok(start);
@@ -143,9 +162,19 @@ impl<B: Body> Standing<B> {
     // Hands a job to the workers that stand. It comes back where an allocation fails, or the board has no room.
     fn hand_over(&mut self, start: Start<B>) -> Result<(), Start<B>>
         requires { length self.old.jobs < self.old.workers }
-        ensures ok { OnOk result (self.new.jobs ≡ self.old.jobs ++ record { number = start.number; system = start.system; body = start.body; view = start.view.value; there = true } ∷ []) }
+        ensures ok { OnOk result (self.new.jobs
+            ≡ self.old.jobs
+            ++ record {
+              number = start.number;
+              system = start.system;
+              body = start.body;
+              view = start.view.value;
+              there = true;
+            }
+            ∷ []) }
         ensures err { IfErr result (λ back. (back ≡ start) × (self.new.jobs ≡ self.old.jobs)) }
-        ensures same { (self.new.workers ≡ self.old.workers) × (self.new.hands ≡ self.old.hands) × (self.new.slots ≡ self.old.slots) }
+        ensures same { (self.new.workers ≡ self.old.workers) × (self.new.hands ≡ self.old.hands)
+            × (self.new.slots ≡ self.old.slots) }
     {
         post(&mut self.lead, &mut self.tickets, start)
     }
@@ -161,11 +190,22 @@ impl<B: Body> Standing<B> {
     ) -> Result<(), HandOutFault<B>>
     where
         B: 's,
-        ensures ok { OnOk result (self.new.jobs ≡ self.old.jobs ++ record { number = start.number; system = start.system; body = start.body; view = start.view.value; there = true } ∷ []) }
+        ensures ok { OnOk result (self.new.jobs
+            ≡ self.old.jobs
+            ++ record {
+              number = start.number;
+              system = start.system;
+              body = start.body;
+              view = start.view.value;
+              there = true;
+            }
+            ∷ []) }
         ensures err { OnErr result (self.new.jobs ≡ self.old.jobs) }
-        ensures workers { OnOk result (self.new.workers + self.new.hands ≡ self.old.workers + self.old.hands) }
+        ensures workers { OnOk result (self.new.workers + self.new.hands
+            ≡ self.old.workers + self.old.hands) }
         ensures slots { self.new.slots ≡ self.old.slots }
-        ensures only { OnErr result ((result ≡ Err (HandOutFault.Memory start)) ⊎ (result ≡ Err (HandOutFault.NoWorker start))) }
+        ensures only { OnErr result ((result ≡ Err (HandOutFault.Memory start))
+            ⊎ (result ≡ Err (HandOutFault.NoWorker start))) }
     {
         let start = self.find_room(scope, signals, gate, start)?;
         match self.hand_over(start) {
@@ -177,11 +217,17 @@ impl<B: Body> Standing<B> {
     // Brings one job back, that of whichever worker is done with one, once it is. None only where the mode can't wait for one; that job is lost.
     pub(crate) fn bring_back<J: JoinThreads>(&mut self, mode: &J) -> Option<JobResult<B>>
         requires { 0 < length self.old.jobs }
-        ensures ran { IfSome result (λ done. (i : ℕ) × IsSomeAnd (slice_get self.old.jobs i) (λ job. Ran B.meaning B.fits job.number job.system job.body job.view done.number done.system done.body done.view.value done.answer) × (self.new.jobs ≡ remove self.old.jobs i)) }
-        ensures none { IfNone result ((i : ℕ) × IsSomeAnd (slice_get self.old.jobs i) (λ job. job.there ≡ true)) }
+        ensures ran { IfSome result (λ done. (i : ℕ)
+            × IsSomeAnd (slice_get self.old.jobs i) (λ job. Ran B.meaning B.fits job.number
+            job.system job.body job.view done.number done.system done.body
+            done.view.value done.answer)
+            × (self.new.jobs ≡ remove self.old.jobs i)) }
+        ensures none { IfNone result ((i : ℕ)
+            × IsSomeAnd (slice_get self.old.jobs i) (λ job. job.there ≡ true)) }
         ensures joins { IsTrue (J.joins mode.now) → IsSome result }
         ensures shorter { length self.new.jobs + 1 ≡ length self.old.jobs }
-        ensures same { (self.new.workers ≡ self.old.workers) × (self.new.hands ≡ self.old.hands) × (self.new.slots ≡ self.old.slots) }
+        ensures same { (self.new.workers ≡ self.old.workers) × (self.new.hands ≡ self.old.hands)
+            × (self.new.slots ≡ self.old.slots) }
     {
         collect(&mut self.lead, &mut self.tickets, &mut self.gave_up, mode)
     }

@@ -58,5 +58,7 @@ impl<B: Body> JobResultOf<B> {
 }
 
 impl<B: Body> Promise<JobResult<B>> for JobResultOf<B> {
-    ghost kept_by = { λ p d. Ran B.meaning B.fits p.start.value.number p.start.value.system p.start.value.body p.start.value.view.value d.number d.system d.body d.view.value d.answer };
+    ghost kept_by = { λ p d. Ran B.meaning B.fits p.start.value.number p.start.value.system
+        p.start.value.body p.start.value.view.value d.number d.system d.body d.view.value
+        d.answer };
 }

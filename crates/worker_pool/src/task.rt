@@ -28,7 +28,8 @@ impl<B: Body> Task for StartTask<B> {
 
     type Outcome = JobResult<B>;
 
-    ghost answers = { λ s d. Ran B.meaning B.fits s.number s.system s.body s.view.value d.number d.system d.body d.view.value d.answer };
+    ghost answers = { λ s d. Ran B.meaning B.fits s.number s.system s.body s.view.value d.number
+        d.system d.body d.view.value d.answer };
 }
 
 impl<B: Body> Runs for StartTask<B> {

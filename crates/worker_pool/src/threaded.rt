@@ -51,7 +51,8 @@ impl<B: Body> PendingJob<B> {
 
     // What comes of the job.
     fn finish<J: JoinThreads>(self, mode: &J) -> Option<JobResult<B>>
-        ensures ran { IfSome result (λ done. Ran B.meaning B.fits self.number self.system self.body self.view done.number done.system done.body done.view.value done.answer) }
+        ensures ran { IfSome result (λ done. Ran B.meaning B.fits self.number self.system self.body
+            self.view done.number done.system done.body done.view.value done.answer) }
         ensures none { IfNone result (self.there ≡ true) }
         ensures joins { IsTrue (J.joins mode.now) → IsSome result }
     {
@@ -157,9 +158,19 @@ impl<B: Body> Threaded<B> {
     ) -> Result<(), HandOutFault<B>>
     where
         B: 's,
-        ensures ok { OnOk result (self.new ≡ self.old ++ record { number = start.number; system = start.system; body = start.body; view = start.view.value; there = is_some scope.entry } ∷ []) }
+        ensures ok { OnOk result (self.new
+            ≡ self.old
+            ++ record {
+              number = start.number;
+              system = start.system;
+              body = start.body;
+              view = start.view.value;
+              there = is_some scope.entry;
+            }
+            ∷ []) }
         ensures err { OnErr result (self.new ≡ self.old) }
-        ensures only { OnErr result ((result ≡ Err (HandOutFault.Memory start)) ⊎ ((result ≡ Err HandOutFault.Lost) × (is_some scope.entry ≡ true))) }
+        ensures only { OnErr result ((result ≡ Err (HandOutFault.Memory start))
+            ⊎ ((result ≡ Err HandOutFault.Lost) × (is_some scope.entry ≡ true))) }
     {
         let Ok(()) = self.out.reserve(1) else {
             return Err(HandOutFault::Memory(start));
@@ -198,8 +209,13 @@ impl<B: Body> Threaded<B> {
         mode: &J,
     ) -> Option<JobResult<B>>
         requires { 0 < length self.old }
-        ensures ran { IfSome result (λ done. (i : ℕ) × IsSomeAnd (slice_get self.old i) (λ job. Ran B.meaning B.fits job.number job.system job.body job.view done.number done.system done.body done.view.value done.answer) × (self.new ≡ remove self.old i)) }
-        ensures none { IfNone result ((i : ℕ) × IsSomeAnd (slice_get self.old i) (λ job. job.there ≡ true)) }
+        ensures ran { IfSome result (λ done. (i : ℕ)
+            × IsSomeAnd (slice_get self.old i) (λ job. Ran B.meaning B.fits job.number
+            job.system job.body job.view done.number done.system done.body
+            done.view.value done.answer)
+            × (self.new ≡ remove self.old i)) }
+        ensures none { IfNone result ((i : ℕ)
+            × IsSomeAnd (slice_get self.old i) (λ job. job.there ≡ true)) }
         ensures joins { IsTrue (J.joins mode.now) → IsSome result }
         ensures shorter { length self.new + 1 ≡ length self.old }
     {

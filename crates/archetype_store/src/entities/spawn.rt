@@ -22,8 +22,10 @@ impl Entities {
         requires home { AreAllHome self.old.layout }
         requires rising { IsRising (map component_of components.items) }
         ensures id { IfOk result (λ e. e ≡ next_id self.old.slots) }
-        ensures ok { OnOk result (self.new.slots ≡ with_new (map component_of components.items) self.old.slots) }
-        ensures spent { IsErrOf result GrantFault.IdsSpent ↔ (ids.has_ids 1 self.old.slots ≡ false) }
+        ensures ok { OnOk result (self.new.slots
+            ≡ with_new (map component_of components.items) self.old.slots) }
+        ensures spent { IsErrOf result GrantFault.IdsSpent
+            ↔ (ids.has_ids 1 self.old.slots ≡ false) }
         ensures err { OnErr result (self.new ≡ self.old) }
         ensures home { AreAllHome self.new.layout }
     {

@@ -24,10 +24,13 @@ impl World {
     pub fn spawn(&mut self, alloc: Global, components: Components) -> Result<Entity, GrantFault>
         requires home { AreAllHome self.old.layout }
         requires rising { IsRising (map component_of components.items) }
-        requires components { AllByRecursion (IsComponent widths self.old.state.clock) (map component_of components.items) }
+        requires components { AllByRecursion (IsComponent widths self.old.state.clock) (map
+            component_of components.items) }
         ensures id { IfOk result (λ e. e ≡ next_id self.old.state.slots) }
-        ensures ok { OnOk result (self.new.state ≡ with_slots (with_new (map component_of components.items)) self.old.state) }
-        ensures spent { IsErrOf result GrantFault.IdsSpent ↔ (ids.has_ids 1 self.old.state.slots ≡ false) }
+        ensures ok { OnOk result (self.new.state
+            ≡ with_slots (with_new (map component_of components.items)) self.old.state) }
+        ensures spent { IsErrOf result GrantFault.IdsSpent
+            ↔ (ids.has_ids 1 self.old.state.slots ≡ false) }
         ensures err { OnErr result (self.new ≡ self.old) }
         ensures home { AreAllHome self.new.layout }
     {

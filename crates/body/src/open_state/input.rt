@@ -33,7 +33,8 @@ impl OpenState {
         requires home { AreAllHome self.old.layout }
         ensures can { OnOk result (can_input (input_of input.now) self.old.state ≡ true) }
         ensures id { IfOk result (λ id. id ≡ input_id (input_of input.now) self.old.state) }
-        ensures state { OnOk result (self.new.state ≡ after_input (input_of input.now) self.old.state) }
+        ensures state { OnOk result (self.new.state
+            ≡ after_input (input_of input.now) self.old.state) }
         ensures home { AreAllHome self.new.layout }
         ensures refused { IfErr result (IsPutFault (input_of input.now) self.old.state) }
         ensures err { OnErr result (self.new ≡ self.old) }
@@ -64,7 +65,8 @@ impl OpenState {
     // A resource gets a value at the next tick.
     fn set_resource(&mut self, res: Res, value: i64)
         requires { has_tick self.old.state ≡ true }
-        ensures state { self.new.state ≡ after_input (SetResource (res_number res) value) self.old.state }
+        ensures state { self.new.state
+            ≡ after_input (SetResource (res_number res) value) self.old.state }
         ensures layout { self.new.layout ≡ self.old.layout }
     {
         let Ok(tick) = self.next() else {
@@ -76,9 +78,12 @@ impl OpenState {
     // An event is sent, and the next tick becomes the clock.
     fn emit(&mut self, event: Event, value: i64) -> Result<(), SendFault>
         requires { has_tick self.old.state ≡ true }
-        ensures state { OnOk result (self.new.state ≡ after_input (Emit (event_number event) value) self.old.state) }
-        ensures room { OnOk result (has_room (Emit (event_number event) value) self.old.state ≡ true) }
-        ensures spent { result ≡ Err SendFault.NumbersSpent → has_room (Emit (event_number event) value) self.old.state ≡ false }
+        ensures state { OnOk result (self.new.state
+            ≡ after_input (Emit (event_number event) value) self.old.state) }
+        ensures room { OnOk result (has_room (Emit (event_number event) value) self.old.state
+            ≡ true) }
+        ensures spent { result ≡ Err SendFault.NumbersSpent
+            → has_room (Emit (event_number event) value) self.old.state ≡ false }
         ensures layout { self.new.layout ≡ self.old.layout }
         ensures err { OnErr result (self.new ≡ self.old) }
     {
@@ -95,9 +100,11 @@ impl OpenState {
         requires tick { tick ≡ next_tick self.old.state }
         requires home { AreAllHome self.old.layout }
         ensures id { IfOk result (λ e. e ≡ next_id self.old.state.world.slots) }
-        ensures state { OnOk result (self.new.state ≡ after_input (Spawn (map given_by values.now)) self.old.state) }
+        ensures state { OnOk result (self.new.state
+            ≡ after_input (Spawn (map given_by values.now)) self.old.state) }
         ensures room { OnOk result (has_ids 1 self.old.state.world.slots ≡ true) }
-        ensures spent { result ≡ Err GrantFault.IdsSpent → has_ids 1 self.old.state.world.slots ≡ false }
+        ensures spent { result ≡ Err GrantFault.IdsSpent
+            → has_ids 1 self.old.state.world.slots ≡ false }
         ensures home { AreAllHome self.new.layout }
         ensures err { OnErr result (self.new ≡ self.old) }
     {
@@ -119,7 +126,10 @@ impl OpenState {
         requires has { has_tick self.old.state ≡ true }
         requires home { AreAllHome self.old.layout }
         requires none { spawned_by buffer ≡ [] }
-        ensures state { OnOk result (self.new.state ≡ with_target (apply_buffer (next_tick self.old.state) (target_in self.old.state) buffer) (ticked self.old.state)) }
+        ensures state { OnOk result (self.new.state
+            ≡ with_target
+            (apply_buffer (next_tick self.old.state) (target_in self.old.state) buffer)
+            (ticked self.old.state)) }
         ensures home { AreAllHome self.new.layout }
         ensures err { OnErr result (self.new ≡ self.old) }
     {
@@ -140,7 +150,8 @@ impl OpenState {
 
 // The row of a new entity: these components, inserted at a tick one after the other.
 fn row_at(alloc: Global, values: &[Value], tick: Tick) -> Result<Components, AllocError>
-    ensures { IfOk result (λ row. map component_of row.items ≡ row_at_tick tick (map given_by values.now)) }
+    ensures { IfOk result (λ row. map component_of row.items
+        ≡ row_at_tick tick (map given_by values.now)) }
 {
     let mut row = Components::with_capacity(alloc, values.len())?;
     for value in values {

@@ -68,8 +68,12 @@ pub(crate) fn applied(alloc: Global) -> Option<bool> {
 
 // The column of the only pick.
 fn only(world: &World, picks: &[Pick]) -> Option<ColumnAt>
-    requires { AllByRecursion (λ p. column_home (archetype_at world.now.layout p.archetype) p.kind ≡ Some true) (map pick_seen picks.now) }
-    ensures { IfSome result (λ at. column_home (archetype_at world.now.layout at.archetype) (kind_number at.kind) ≡ Some true) }
+    requires { AllByRecursion
+        (λ p. column_home (archetype_at world.now.layout p.archetype) p.kind ≡ Some true) (map
+        pick_seen picks.now) }
+    ensures { IfSome result (λ at. column_home (archetype_at world.now.layout at.archetype)
+        (kind_number at.kind)
+        ≡ Some true) }
 {
     let _world = world;
     let [pick] = picks else {
@@ -84,7 +88,9 @@ fn only(world: &World, picks: &[Pick]) -> Option<ColumnAt>
 // The column that a query of health writes.
 fn health_column(alloc: Global, world: &World) -> Option<ColumnAt>
     requires { AreAllHome world.now.layout }
-    ensures { IfSome result (λ at. column_home (archetype_at world.now.layout at.archetype) (kind_number at.kind) ≡ Some true) }
+    ensures { IfSome result (λ at. column_home (archetype_at world.now.layout at.archetype)
+        (kind_number at.kind)
+        ≡ Some true) }
 {
     let query = Query::read(alloc, "mut Health").ok()?;
     prove_picks_home();

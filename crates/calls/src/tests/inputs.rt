@@ -78,7 +78,11 @@ pub(crate) fn inputs(alloc: Global) -> Option<bool> {
 pub(crate) fn moved_from_input(alloc: Global) -> Option<bool> {
     let mut engine = moving(alloc, Clock::at(1))?;
     let place = Position { x: 5, y: 5 };
-    put_only(&mut engine, alloc, &Input::Insert(FIRST, place.into_value()))?;
+    put_only(
+        &mut engine,
+        alloc,
+        &Input::Insert(FIRST, place.into_value()),
+    )?;
     let has_run = Way::Plain.run(&mut engine, alloc, 1) == None;
     Some(has_run && position(engine.state()) == Some(Position { x: 6, y: 3 }))
 }
