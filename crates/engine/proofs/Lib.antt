@@ -24,3 +24,4 @@ pub mod Keeping
 pub mod Agreeing
 pub mod Kept
 mod Alone
+mod Inputs

@@ -189,47 +189,6 @@ do_plain-requires-clause-next g c κs within =
     let known = c.requires.next.4 in
     (there, width, sets, bodies, start, h, slots, out, record { between = known.between; take = subst (λ (t : Turn). IsTurn (recording s sets) h (length out) width (Some t)) c.in-Take.is known.following })
 
-pub returns-in_err-done-in-Take-clause-stopped : goal.returns-in_err-done-in-Take-clause-stopped
-returns-in_err-done-in-Take-clause-stopped g c =
-    let meaning = g.B.Body.meaning in
-    let fits = g.B.Body.fits in
-    let there = g.M.SpawnThreads.has_scope c.args.mode.now in
-    let width = g.M.Mode.width c.args.mode.now in
-    let s = c.args.built.now in
-    let slots = c.args.jobs.now.bodies in
-    let deferred = c.args.run.now.deferred in
-    let out = c.args.jobs.now.pool in
-    let w = c.args.run.now.state in
-    handed_on (StopsNext meaning fits there width s slots deferred out w c.args.turn) c.from_residual-in_err-done-in-Take.result c.in_err-done-in-Take.field-0.0 c.from_residual-in_err-done-in-Take.ensures.1
-    (λ sets bodies start h known. c.in_err-done-in-Take.ensures.stopped there width sets bodies start h slots out (record { between = known.between; take = subst (λ (t : Turn). IsTurn (recording s sets) h (length out) width (Some t)) c.in-Take.is known.following }))
-
-pub returns-in_err-done-in-Take-clause-kept : goal.returns-in_err-done-in-Take-clause-kept
-returns-in_err-done-in-Take-clause-kept g c =
-    let meaning = g.B.Body.meaning in
-    let fits = g.B.Body.fits in
-    let there = g.M.SpawnThreads.has_scope c.args.mode.now in
-    let width = g.M.Mode.width c.args.mode.now in
-    let s = c.args.built.now in
-    let slots = c.args.jobs.now.bodies in
-    let deferred = c.args.run.now.deferred in
-    let out = c.args.jobs.now.pool in
-    let w = c.args.run.now.state in
-    handed_on (KeepsNext meaning fits there (g.M.Mode.stands c.args.mode.now) width s slots deferred out w c.args.turn slots out) c.from_residual-in_err-done-in-Take.result c.in_err-done-in-Take.field-0.0 c.from_residual-in_err-done-in-Take.ensures.1
-    (λ lost sets bodies start h known. placed_kept meaning fits there s bodies slots out w known.between.placed)
-
-pub returns-in_ok-done-in-Take-clause-taken : goal.returns-in_ok-done-in-Take-clause-taken
-returns-in_ok-done-in-Take-clause-taken g c = λ sets bodies start h known.
-    let meaning = g.B.Body.meaning in
-    let fits = g.B.Body.fits in
-    let there = g.M.SpawnThreads.has_scope c.args.mode.now in
-    let width = g.M.Mode.width c.args.mode.now in
-    let s = c.args.built.now in
-    let slots = c.args.jobs.now.bodies in
-    let deferred = c.args.run.now.deferred in
-    let out = c.args.jobs.now.pool in
-    let w = c.args.run.now.state in
-    c.in_ok-done-in-Take.ensures.taken there width sets bodies start h slots out (record { between = known.between; take = subst (λ (t : Turn). IsTurn (recording s sets) h (length out) width (Some t)) c.in-Take.is known.following })
-
 pub returns-in-Start-clause-quiet : goal.returns-in-Start-clause-quiet
 returns-in-Start-clause-quiet g c = rw c.plain-in-Start.ensures (λ k is none. absurd (let clash = is in cc))
 

@@ -1,0 +1,21 @@
+use Rattle.std.proofs.Common.{◌≡◌, refl, sym, ap, ◌∙◌, subst}
+use Rattle.model.specs.state.State.{State}
+use Rattle.model.specs.steps.Schedule.{Schedule}
+use Rattle.engine.specs.EngineValue.{EngineValue}
+use Rattle.engine.specs.Meanings.{meanings, AllKeepWithin, AreFit, HasMemories, LacksMemories}
+use Rattle.engine.proofs.engine.Engine.set_state.Goals as goal
+
+pub returns-then-lacks_memories-clause-count : goal.returns-then-lacks_memories-clause-count
+returns-then-lacks_memories-clause-count g c =
+    let lacks = subst (λ (s : Schedule). LacksMemories s c.args.state) (ap (λ (v : EngineValue g.row.B.Denot). v.schedule) c.self.view_is) c.if-lacks_memories.ensures in
+    (λ e. lacks, λ e. refl)
+
+pub invariant_of-self : goal.invariant_of-self
+invariant_of-self g c = λ _.
+    let fit = subst (λ (v : EngineValue g.row.B.Denot). AreFit g.B.Body.fits v.schedule v.bodies) (sym c.self.view_is) c.if-not-has_bodies.ensures.fit in
+    let keep = subst (λ (v : EngineValue g.row.B.Denot). AllKeepWithin v.schedule (meanings g.B.Body.meaning v.schedule v.bodies)) (sym c.self.view_is) (c.if-not-has_bodies.ensures.keep refl) in
+    (record {
+      body_count = fit.body_count;
+      memories = subst (λ (w : State). HasMemories c.self.inside.built w) (sym c.keep_shapes.ensures) c.if-lacks_memories.ensures;
+      fit = fit.fit;
+    }, keep, c.in_ok-deferred.ensures.suits)
