@@ -1,5 +1,5 @@
 -- What a stop means stays what it means further up.
-use Rattle.std.proofs.Common.{ℕ, ◌≡◌, Bool, true, false, List, Result, Ok, Err, IfErr, IsErrAnd, refl, sym, ap, ap₂, ◌∙◌, subst}
+use Rattle.std.proofs.Common.{ℕ, ◌≡◌, Bool, true, false, List, Result, Ok, Err, IfErr, IfOk, IsErrAnd, refl, sym, ap, ap₂, ◌∙◌, subst}
 use Rattle.std.proofs.lemmas.Bool.{false≢true}
 use Rattle.model.specs.state.State.{State}
 use Rattle.model.specs.shown.Outcome.{BodyMeaning}
@@ -21,6 +21,11 @@ use Rattle.engine.specs.declared.stop.Stop.TheVariants as stop
 pub told_of : {T F : Type 0} (r : Result T F) (fault other : F) → IsErrAnd r (λ told. told ≡ fault) → r ≡ Err other → fault ≡ other
 told_of (Ok x) fault other told is = absurd told
 told_of {T} {F} (Err e) fault other told is = let whole : ◌≡◌ {A = Result T F} (Err e) (Err other) = is in let same : e ≡ other = cc in sym told ∙ same
+
+-- of an error nothing is asked that is asked of what is done
+pub none_ok : {T E : Type 0} (P : T → Type 0) (Q : E → Type 0) (r : Result T E) → IsErrAnd r Q → IfOk r P
+none_ok P Q (Ok x) is = absurd is
+none_ok P Q (Err e) is = tt
 
 -- equal errors are of one stop
 pub one_stop : {T : Type 0} {a b : Stop} → ◌≡◌ {A = Result T Stop} (Err a) (Err b) → a ≡ b

@@ -71,10 +71,13 @@ impl<B: Drop> Bodies<B> {
 impl<B: Body> Bodies<B> {
     /// Runs the body of a system in its place.
     pub(crate) fn run(&mut self, system: usize, view: &mut View) -> Result<(), BodyFault>
-        requires fits { IsSomeAnd (body_at self.old system) (λ body. IsTrue (B.fits body view.old.params)) }
+        requires fits { IsSomeAnd (body_at self.old system) (λ body. IsTrue (B.fits body
+            view.old.params)) }
         requires showing { CanBeShown view.old.params view.old.shown }
         requires untouched { view.old.outcome ≡ untouched view.old.params view.old.shown }
-        ensures { IsSomeAnd (body_at self.old system) (λ body. (later : B) × (self.new ≡ set self.old system (Some later)) × Ran B.meaning B.fits 0 system body view.old 0 system later view.new result) }
+        ensures { IsSomeAnd (body_at self.old system) (λ body. (later : B)
+            × (self.new ≡ set self.old system (Some later))
+            × Ran B.meaning B.fits 0 system body view.old 0 system later view.new result) }
     {
         let Some(body) = &mut self.places[system] else {
             unreachable!()
@@ -84,8 +87,11 @@ impl<B: Body> Bodies<B> {
 
     /// Whether there is a body for each system, and each fits its parameters. If so, each keeps within them.
     pub(crate) fn all_fit(&self, built: &Built) -> bool
-        ensures fit { MatchBool result (AreFit B.fits built.now self.now) (AreFit B.fits built.now self.now → ⊥) }
-        ensures keep { IsTrue result → AllKeepWithin built.now (meanings B.meaning built.now self.now) }
+        ensures fit { MatchBool result (AreFit B.fits built.now self.now) (AreFit B.fits built.now
+            self.now
+            → ⊥) }
+        ensures keep { IsTrue result
+            → AllKeepWithin built.now (meanings B.meaning built.now self.now) }
     {
         if self.places.len() != built.count() as usize {
             return false;
@@ -103,7 +109,9 @@ impl<B: Body> Bodies<B> {
         requires count { length self.now ≡ length built.now.systems }
         requires known { system < length built.now.systems }
         ensures exact { result ≡ fits_at B.fits built.now self.now system }
-        ensures keeps { IsTrue result → KeepsWithin (params_of built.now system) (body_of (meanings B.meaning built.now self.now) system) }
+        ensures keeps { IsTrue result
+            → KeepsWithin (params_of built.now system) (body_of
+            (meanings B.meaning built.now self.now) system) }
     {
         match &self.places[system as usize] {
             Some(body) => body.fits(built.params(system)),

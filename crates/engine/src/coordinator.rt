@@ -49,15 +49,25 @@ pub(crate) fn run_times<'s, M: Mode<'s>, B: Body + 's>(
     times: u32,
     mode: &M,
 ) -> Result<Vec<Trace>, Stop>
-    requires rest { IsAtRest B.meaning B.fits built.now jobs.old.bodies run.old.deferred run.old.state }
+    requires rest { IsAtRest B.meaning B.fits built.now jobs.old.bodies run.old.deferred
+        run.old.state }
     requires empty { jobs.old.pool ≡ [] }
     ensures count { IfOk result (λ traces. length traces.items ≡ times) }
-    ensures records { IfOk result (λ traces. AllByRecursion (λ r. is_some r.sets ≡ true) traces.items) }
-    ensures ran { IfOk result (λ traces. AreWideRuns (M.width mode.now) built.now (meanings B.meaning built.now jobs.old.bodies) run.old.state.state traces.items run.new.state.state) }
-    ensures rest { OnOk result (IsAtRest B.meaning B.fits built.now jobs.new.bodies run.new.deferred run.new.state) }
-    ensures stopped { IfErr result (StopsBy (M.has_scope mode.now) (IsWideStopped (M.width mode.now) built.now (meanings B.meaning built.now jobs.old.bodies) times run.old.state.state)) }
-    ensures meanings { (result ≡ Err stop.NoWorker → IsTrue (M.stands mode.now)) → meanings B.meaning built.now jobs.new.bodies ≡ meanings B.meaning built.now jobs.old.bodies }
-    ensures fit { (result ≡ Err stop.NoWorker → IsTrue (M.stands mode.now)) → AreFit B.fits built.now jobs.new.bodies }
+    ensures records { IfOk result (λ traces. AllByRecursion (λ r. is_some r.sets ≡ true)
+        traces.items) }
+    ensures ran { IfOk result (λ traces. AreWideRuns (M.width mode.now) built.now
+        (meanings B.meaning built.now jobs.old.bodies) run.old.state.state traces.items
+        run.new.state.state) }
+    ensures rest { OnOk result (IsAtRest B.meaning B.fits built.now jobs.new.bodies run.new.deferred
+        run.new.state) }
+    ensures stopped { IfErr result (StopsBy (M.has_scope mode.now) (IsWideStopped (M.width mode.now)
+        built.now (meanings B.meaning built.now jobs.old.bodies) times
+        run.old.state.state)) }
+    ensures meanings { (result ≡ Err stop.NoWorker → IsTrue (M.stands mode.now))
+        → meanings B.meaning built.now jobs.new.bodies
+        ≡ meanings B.meaning built.now jobs.old.bodies }
+    ensures fit { (result ≡ Err stop.NoWorker → IsTrue (M.stands mode.now))
+        → AreFit B.fits built.now jobs.new.bodies }
 {
     let mut recording = Recording {
         core: boxed_core(run.alloc, built)?,
@@ -101,15 +111,24 @@ fn one_run<'s, M: Mode<'s>, B: Body + 's>(
     recording: &mut Recording<'_>,
     mode: &M,
 ) -> Result<(), Stop>
-    requires rest { IsAtRest B.meaning B.fits built.now jobs.old.bodies run.old.deferred run.old.state }
+    requires rest { IsAtRest B.meaning B.fits built.now jobs.old.bodies run.old.deferred
+        run.old.state }
     requires empty { jobs.old.pool ≡ [] }
-    requires following { IsFollowing recording.old.core.value built.now recording.old.traces.items run.old.state.state.world.slots }
-    ensures ran { OnOk result (IsOneMoreRun (M.width mode.now) built.now (meanings B.meaning built.now jobs.old.bodies) run.old.state.state recording.old.traces.items run.new.state.state recording.new.traces.items) }
-    ensures following { OnOk result (IsFollowing recording.new.core.value built.now recording.new.traces.items run.new.state.state.world.slots) }
-    ensures rest { OnOk result (IsAtRest B.meaning B.fits built.now jobs.new.bodies run.new.deferred run.new.state) }
+    requires following { IsFollowing recording.old.core.value built.now recording.old.traces.items
+        run.old.state.state.world.slots }
+    ensures ran { OnOk result (IsOneMoreRun (M.width mode.now) built.now
+        (meanings B.meaning built.now jobs.old.bodies) run.old.state.state
+        recording.old.traces.items run.new.state.state recording.new.traces.items) }
+    ensures following { OnOk result (IsFollowing recording.new.core.value built.now
+        recording.new.traces.items run.new.state.state.world.slots) }
+    ensures rest { OnOk result (IsAtRest B.meaning B.fits built.now jobs.new.bodies run.new.deferred
+        run.new.state) }
     ensures empty { OnOk result (jobs.new.pool ≡ []) }
-    ensures stopped { IfErr result (StopsBy (M.has_scope mode.now) (WideStops (M.width mode.now) built.now (meanings B.meaning built.now jobs.old.bodies) run.old.state.state)) }
-    ensures kept { (result ≡ Err stop.NoWorker → IsTrue (M.stands mode.now)) → AreKept B.meaning B.fits (M.has_scope mode.now) built.now (meanings B.meaning built.now jobs.old.bodies) jobs.new.bodies jobs.new.pool }
+    ensures stopped { IfErr result (StopsBy (M.has_scope mode.now) (WideStops (M.width mode.now)
+        built.now (meanings B.meaning built.now jobs.old.bodies) run.old.state.state)) }
+    ensures kept { (result ≡ Err stop.NoWorker → IsTrue (M.stands mode.now))
+        → AreKept B.meaning B.fits (M.has_scope mode.now) built.now
+        (meanings B.meaning built.now jobs.old.bodies) jobs.new.bodies jobs.new.pool }
 {
     if mode.width() == 1 && mode.scope().is_none() {
         return run_alone(built, run, &mut jobs.bodies, recording);
@@ -125,15 +144,24 @@ fn run_turns<'s, M: Mode<'s>, B: Body + 's>(
     recording: &mut Recording<'_>,
     mode: &M,
 ) -> Result<(), Stop>
-    requires rest { IsAtRest B.meaning B.fits built.now jobs.old.bodies run.old.deferred run.old.state }
+    requires rest { IsAtRest B.meaning B.fits built.now jobs.old.bodies run.old.deferred
+        run.old.state }
     requires empty { jobs.old.pool ≡ [] }
-    requires following { IsFollowing recording.old.core.value built.now recording.old.traces.items run.old.state.state.world.slots }
-    ensures ran { OnOk result (IsOneMoreRun (M.width mode.now) built.now (meanings B.meaning built.now jobs.old.bodies) run.old.state.state recording.old.traces.items run.new.state.state recording.new.traces.items) }
-    ensures following { OnOk result (IsFollowing recording.new.core.value built.now recording.new.traces.items run.new.state.state.world.slots) }
-    ensures rest { OnOk result (IsAtRest B.meaning B.fits built.now jobs.new.bodies run.new.deferred run.new.state) }
+    requires following { IsFollowing recording.old.core.value built.now recording.old.traces.items
+        run.old.state.state.world.slots }
+    ensures ran { OnOk result (IsOneMoreRun (M.width mode.now) built.now
+        (meanings B.meaning built.now jobs.old.bodies) run.old.state.state
+        recording.old.traces.items run.new.state.state recording.new.traces.items) }
+    ensures following { OnOk result (IsFollowing recording.new.core.value built.now
+        recording.new.traces.items run.new.state.state.world.slots) }
+    ensures rest { OnOk result (IsAtRest B.meaning B.fits built.now jobs.new.bodies run.new.deferred
+        run.new.state) }
     ensures empty { OnOk result (jobs.new.pool ≡ []) }
-    ensures stopped { IfErr result (StopsBy (M.has_scope mode.now) (WideStops (M.width mode.now) built.now (meanings B.meaning built.now jobs.old.bodies) run.old.state.state)) }
-    ensures kept { (result ≡ Err stop.NoWorker → IsTrue (M.stands mode.now)) → AreKept B.meaning B.fits (M.has_scope mode.now) built.now (meanings B.meaning built.now jobs.old.bodies) jobs.new.bodies jobs.new.pool }
+    ensures stopped { IfErr result (StopsBy (M.has_scope mode.now) (WideStops (M.width mode.now)
+        built.now (meanings B.meaning built.now jobs.old.bodies) run.old.state.state)) }
+    ensures kept { (result ≡ Err stop.NoWorker → IsTrue (M.stands mode.now))
+        → AreKept B.meaning B.fits (M.has_scope mode.now) built.now
+        (meanings B.meaning built.now jobs.old.bodies) jobs.new.bodies jobs.new.pool }
 {
     let width = mode.width();
     jobs.started = 0;
@@ -163,8 +191,10 @@ fn begin(
     requires meetings { IfSome latest (λ sets. AreMeetings core.old sets.now) }
     requires there { IfSome latest (λ sets. sets.now ≡ kind_sets_of state.now.state.world.slots) }
     ensures steps { IfOk result (λ trace. trace.steps ≡ []) }
-    ensures sets { IfOk result (λ trace. trace.sets ≡ Some (kind_sets_of state.now.state.world.slots ∷ [])) }
-    ensures stands { OnOk result (Stands core.new (Some (kind_sets_of state.now.state.world.slots ∷ [])) []) }
+    ensures sets { IfOk result (λ trace. trace.sets
+        ≡ Some (kind_sets_of state.now.state.world.slots ∷ [])) }
+    ensures stands { OnOk result (Stands core.new
+        (Some (kind_sets_of state.now.state.world.slots ∷ [])) []) }
     ensures schedule { core.new.schedule ≡ core.old.schedule }
 {
     let Some(sets) = latest else {
@@ -185,11 +215,26 @@ fn do_turn<'s, M: Mode<'s>, B: Body + 's>(
     mode: &M,
     turn: Turn,
 ) -> Result<Done, Stop>
-    requires next { (sets : Option (List (List ℕ))) × (bodies : List BodyMeaning) × (start : State) × (h : List Action) × IsNext B.meaning B.fits (M.has_scope mode.now) (M.width mode.now) built.now sets bodies start h jobs.old.bodies run.old.deferred jobs.old.pool run.old.state turn }
-    ensures taken { IfOk result (λ done. (sets : Option (List (List ℕ))) → (bodies : List BodyMeaning) → (start : State) → (h : List Action) → IsNext B.meaning B.fits (M.has_scope mode.now) (M.width mode.now) built.now sets bodies start h jobs.old.bodies run.old.deferred jobs.old.pool run.old.state turn → IsTaken B.meaning B.fits (M.has_scope mode.now) (M.width mode.now) built.now sets bodies start h jobs.new.bodies run.new.deferred jobs.new.pool run.new.state done.step) }
-    ensures quiet { IfOk result (λ done. (k : ℕ) → done.step ≡ Pass k → done.commanded ≡ false → kind_sets_of run.new.state.state.world.slots ≡ kind_sets_of run.old.state.state.world.slots) }
-    ensures stopped { IfErr result (StopsNext B.meaning B.fits (M.has_scope mode.now) (M.width mode.now) built.now jobs.old.bodies run.old.deferred jobs.old.pool run.old.state turn) }
-    ensures kept { IfErr result (KeepsNext B.meaning B.fits (M.has_scope mode.now) (M.stands mode.now) (M.width mode.now) built.now jobs.old.bodies run.old.deferred jobs.old.pool run.old.state turn jobs.new.bodies jobs.new.pool) }
+    requires next { (sets : Option (List (List ℕ))) × (bodies : List BodyMeaning) × (start : State)
+        × (h : List Action)
+        × IsNext B.meaning B.fits (M.has_scope mode.now) (M.width mode.now) built.now sets bodies
+        start h jobs.old.bodies run.old.deferred jobs.old.pool run.old.state turn }
+    ensures taken { IfOk result (λ done. (sets : Option (List (List ℕ)))
+        → (bodies : List BodyMeaning) → (start : State) → (h : List Action)
+        → IsNext B.meaning B.fits (M.has_scope mode.now) (M.width mode.now) built.now sets
+        bodies start h jobs.old.bodies run.old.deferred jobs.old.pool run.old.state turn
+        → IsTaken B.meaning B.fits (M.has_scope mode.now) (M.width mode.now) built.now sets
+        bodies start h jobs.new.bodies run.new.deferred jobs.new.pool run.new.state
+        done.step) }
+    ensures quiet { IfOk result (λ done. (k : ℕ) → done.step ≡ Pass k → done.commanded ≡ false
+        → kind_sets_of run.new.state.state.world.slots
+        ≡ kind_sets_of run.old.state.state.world.slots) }
+    ensures stopped { IfErr result (StopsNext B.meaning B.fits (M.has_scope mode.now)
+        (M.width mode.now) built.now jobs.old.bodies run.old.deferred jobs.old.pool
+        run.old.state turn) }
+    ensures kept { IfErr result (KeepsNext B.meaning B.fits (M.has_scope mode.now)
+        (M.stands mode.now) (M.width mode.now) built.now jobs.old.bodies run.old.deferred
+        jobs.old.pool run.old.state turn jobs.new.bodies jobs.new.pool) }
 {
     match turn {
         Turn::Collect => {
@@ -212,9 +257,13 @@ fn do_turn<'s, M: Mode<'s>, B: Body + 's>(
 fn do_plain<B: Body>(built: &Built, run: &mut RunState, offer: Ready) -> Result<Done, Stop>
     requires other { (n : ℕ) → offer ≡ ready.Start n → ⊥ }
     requires next { IsOfferedIn B.meaning B.fits built.now run.old.deferred run.old.state offer }
-    ensures taken { IfOk result (λ done. TakesOffered B.meaning B.fits built.now run.old.deferred run.old.state offer run.new.deferred run.new.state done.step) }
-    ensures quiet { IfOk result (λ done. (k : ℕ) → done.step ≡ Pass k → done.commanded ≡ false → kind_sets_of run.new.state.state.world.slots ≡ kind_sets_of run.old.state.state.world.slots) }
-    ensures stopped { IfErr result (StopsOffered B.meaning B.fits built.now run.old.deferred run.old.state offer) }
+    ensures taken { IfOk result (λ done. TakesOffered B.meaning B.fits built.now run.old.deferred
+        run.old.state offer run.new.deferred run.new.state done.step) }
+    ensures quiet { IfOk result (λ done. (k : ℕ) → done.step ≡ Pass k → done.commanded ≡ false
+        → kind_sets_of run.new.state.state.world.slots
+        ≡ kind_sets_of run.old.state.state.world.slots) }
+    ensures stopped { IfErr result (StopsOffered B.meaning B.fits built.now run.old.deferred
+        run.old.state offer) }
 {
     run.state.prove_law();
     match offer {
@@ -246,9 +295,11 @@ fn take(
     requires records { is_some trace.old.sets ≡ true }
     requires stands { Stands core.old trace.old.sets trace.old.steps }
     requires may { May (recording core.old.schedule trace.old.sets) trace.old.steps done.step }
-    requires latest { (k : ℕ) → done.step ≡ Pass k → done.commanded ≡ false → latest_list trace.old ≡ Some (kind_sets_of state.now.state.world.slots) }
+    requires latest { (k : ℕ) → done.step ≡ Pass k → done.commanded ≡ false
+        → latest_list trace.old ≡ Some (kind_sets_of state.now.state.world.slots) }
     ensures steps { OnOk result (trace.new.steps ≡ done.step ∷ trace.old.steps) }
-    ensures sets { OnOk result (trace.new.sets ≡ sets_after done.step state.now.state trace.old.sets) }
+    ensures sets { OnOk result (trace.new.sets
+        ≡ sets_after done.step state.now.state trace.old.sets) }
     ensures records { OnOk result (is_some trace.new.sets ≡ true) }
     ensures stands { OnOk result (Stands core.new trace.new.sets trace.new.steps) }
     ensures schedule { core.new.schedule ≡ core.old.schedule }
@@ -270,7 +321,8 @@ fn sets_now(
     state: &OpenState,
     commanded: bool,
 ) -> Result<KindSets, AllocError>
-    requires { commanded ≡ false → latest_list trace.now ≡ Some (kind_sets_of state.now.state.world.slots) }
+    requires { commanded ≡ false
+        → latest_list trace.now ≡ Some (kind_sets_of state.now.state.world.slots) }
     ensures { IfOk result (λ sets. sets ≡ kind_sets_of state.now.state.world.slots) }
 {
     if commanded {
@@ -287,7 +339,8 @@ fn pass(core: &mut Core<'_>, trace: &Trace, point: u32, sets: &KindSets)
     requires records { is_some trace.now.sets ≡ true }
     requires stands { Stands core.old trace.now.sets trace.now.steps }
     requires may { May (recording core.old.schedule trace.now.sets) trace.now.steps (Pass point) }
-    ensures stands { Stands core.new (with_list sets.now trace.now.sets) (Pass point ∷ trace.now.steps) }
+    ensures stands { Stands core.new (with_list sets.now trace.now.sets) (Pass point
+        ∷ trace.now.steps) }
     ensures schedule { core.new.schedule ≡ core.old.schedule }
 {
     if is_latest(trace, sets) {
@@ -320,17 +373,42 @@ fn start_alone<B: Body>(
     trace: &mut Trace,
     system: u32,
 ) -> Result<(), Stop>
-    requires between { (means : List BodyMeaning) × (start : State) × IsBetweenAlone B.meaning B.fits built.now means start core.old trace.old bodies.old run.old.deferred run.old.state }
-    requires next { IsTake (recording built.now trace.old.sets) trace.old.steps 0 1 (ready.Start system) }
-    ensures between { OnOk result ((means : List BodyMeaning) → (start : State) → IsBetweenAlone B.meaning B.fits built.now means start core.old trace.old bodies.old run.old.deferred run.old.state → IsBetweenAlone B.meaning B.fits built.now means start core.new trace.new bodies.new run.new.deferred run.new.state) }
+    requires between { (means : List BodyMeaning) × (start : State)
+        × IsBetweenAlone B.meaning B.fits built.now means start core.old trace.old bodies.old
+        run.old.deferred run.old.state }
+    requires next { IsTake (recording built.now trace.old.sets) trace.old.steps 0 1 (ready.Start
+        system) }
+    ensures between { OnOk result ((means : List BodyMeaning) → (start : State)
+        → IsBetweenAlone B.meaning B.fits built.now means start core.old trace.old bodies.old
+        run.old.deferred run.old.state
+        → IsBetweenAlone B.meaning B.fits built.now means start core.new trace.new bodies.new
+        run.new.deferred run.new.state) }
     ensures steps { OnOk result (trace.new.steps ≡ Finish system ∷ Begin system ∷ trace.old.steps) }
-    ensures stopped { IfErr result (λ told. (means : List BodyMeaning) → (start : State) → IsBetweenAlone B.meaning B.fits built.now means start core.old trace.old bodies.old run.old.deferred run.old.state → StopsBy false (WideStops 1 built.now means start) told) }
-    ensures kept { (means : List BodyMeaning) → (start : State) → IsBetweenAlone B.meaning B.fits built.now means start core.old trace.old bodies.old run.old.deferred run.old.state → AreKept B.meaning B.fits false built.now means bodies.new [] }
+    ensures stopped { IfErr result (λ told. (means : List BodyMeaning) → (start : State)
+        → IsBetweenAlone B.meaning B.fits built.now means start core.old trace.old bodies.old
+        run.old.deferred run.old.state
+        → StopsBy false (WideStops 1 built.now means start) told) }
+    ensures kept { (means : List BodyMeaning) → (start : State)
+        → IsBetweenAlone B.meaning B.fits built.now means start core.old trace.old bodies.old
+        run.old.deferred run.old.state
+        → AreKept B.meaning B.fits false built.now means bodies.new [] }
 {
     built.prove_law();
     run_here(built, run, bodies, system)?;
-    take(run.alloc, core, trace, &run.state, Done::plain(Step::Start(system)))?;
-    take(run.alloc, core, trace, &run.state, Done::plain(Step::Finish(system)))?;
+    take(
+        run.alloc,
+        core,
+        trace,
+        &run.state,
+        Done::plain(Step::Start(system)),
+    )?;
+    take(
+        run.alloc,
+        core,
+        trace,
+        &run.state,
+        Done::plain(Step::Finish(system)),
+    )?;
     Ok(())
 }
 
@@ -343,12 +421,24 @@ fn turn_alone<B: Body>(
     trace: &mut Trace,
     offer: Ready,
 ) -> Result<(), Stop>
-    requires between { (means : List BodyMeaning) × (start : State) × IsBetweenAlone B.meaning B.fits built.now means start core.old trace.old bodies.old run.old.deferred run.old.state }
+    requires between { (means : List BodyMeaning) × (start : State)
+        × IsBetweenAlone B.meaning B.fits built.now means start core.old trace.old bodies.old
+        run.old.deferred run.old.state }
     requires next { IsTake (recording built.now trace.old.sets) trace.old.steps 0 1 offer }
-    ensures between { OnOk result ((means : List BodyMeaning) → (start : State) → IsBetweenAlone B.meaning B.fits built.now means start core.old trace.old bodies.old run.old.deferred run.old.state → IsBetweenAlone B.meaning B.fits built.now means start core.new trace.new bodies.new run.new.deferred run.new.state) }
+    ensures between { OnOk result ((means : List BodyMeaning) → (start : State)
+        → IsBetweenAlone B.meaning B.fits built.now means start core.old trace.old bodies.old
+        run.old.deferred run.old.state
+        → IsBetweenAlone B.meaning B.fits built.now means start core.new trace.new bodies.new
+        run.new.deferred run.new.state) }
     ensures longer { OnOk result (length trace.old.steps < length trace.new.steps) }
-    ensures stopped { IfErr result (λ told. (means : List BodyMeaning) → (start : State) → IsBetweenAlone B.meaning B.fits built.now means start core.old trace.old bodies.old run.old.deferred run.old.state → StopsBy false (WideStops 1 built.now means start) told) }
-    ensures kept { (means : List BodyMeaning) → (start : State) → IsBetweenAlone B.meaning B.fits built.now means start core.old trace.old bodies.old run.old.deferred run.old.state → AreKept B.meaning B.fits false built.now means bodies.new [] }
+    ensures stopped { IfErr result (λ told. (means : List BodyMeaning) → (start : State)
+        → IsBetweenAlone B.meaning B.fits built.now means start core.old trace.old bodies.old
+        run.old.deferred run.old.state
+        → StopsBy false (WideStops 1 built.now means start) told) }
+    ensures kept { (means : List BodyMeaning) → (start : State)
+        → IsBetweenAlone B.meaning B.fits built.now means start core.old trace.old bodies.old
+        run.old.deferred run.old.state
+        → AreKept B.meaning B.fits false built.now means bodies.new [] }
 {
     if let Ready::Start(system) = offer {
         return start_alone(built, run, bodies, core, trace, system);
@@ -366,12 +456,19 @@ fn run_alone<B: Body>(
     recording: &mut Recording<'_>,
 ) -> Result<(), Stop>
     requires rest { IsAtRest B.meaning B.fits built.now bodies.old run.old.deferred run.old.state }
-    requires following { IsFollowing recording.old.core.value built.now recording.old.traces.items run.old.state.state.world.slots }
-    ensures ran { OnOk result (IsOneMoreRun 1 built.now (meanings B.meaning built.now bodies.old) run.old.state.state recording.old.traces.items run.new.state.state recording.new.traces.items) }
-    ensures following { OnOk result (IsFollowing recording.new.core.value built.now recording.new.traces.items run.new.state.state.world.slots) }
-    ensures rest { OnOk result (IsAtRest B.meaning B.fits built.now bodies.new run.new.deferred run.new.state) }
-    ensures stopped { IfErr result (StopsBy false (WideStops 1 built.now (meanings B.meaning built.now bodies.old) run.old.state.state)) }
-    ensures kept { AreKept B.meaning B.fits false built.now (meanings B.meaning built.now bodies.old) bodies.new [] }
+    requires following { IsFollowing recording.old.core.value built.now recording.old.traces.items
+        run.old.state.state.world.slots }
+    ensures ran { OnOk result (IsOneMoreRun 1 built.now (meanings B.meaning built.now bodies.old)
+        run.old.state.state recording.old.traces.items run.new.state.state
+        recording.new.traces.items) }
+    ensures following { OnOk result (IsFollowing recording.new.core.value built.now
+        recording.new.traces.items run.new.state.state.world.slots) }
+    ensures rest { OnOk result (IsAtRest B.meaning B.fits built.now bodies.new run.new.deferred
+        run.new.state) }
+    ensures stopped { IfErr result (StopsBy false (WideStops 1 built.now
+        (meanings B.meaning built.now bodies.old) run.old.state.state)) }
+    ensures kept { AreKept B.meaning B.fits false built.now
+        (meanings B.meaning built.now bodies.old) bodies.new [] }
 {
     run.deferred.clear();
     run.open(built)?;

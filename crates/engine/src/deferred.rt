@@ -79,7 +79,12 @@ impl Model for Deferred {
 
     ghost Value = { DeferredValue };
 
-    ghost view = { λ l. record { levels = l.levels.items; spawners = l.spawners.items; commands = l.commands.items; grants = l.grants.items } };
+    ghost view = { λ l. record {
+      levels = l.levels.items;
+      spawners = l.spawners.items;
+      commands = l.commands.items;
+      grants = l.grants.items;
+    } };
 }
 
 impl Deferred {
@@ -157,12 +162,18 @@ impl Deferred {
         level: u32,
     ) -> Result<(), GrantFault>
         requires suits { IsDeferredFor built.now self.old }
-        ensures granted { OnOk result (run_with state.new.state self.new ≡ after_grant built.now level (run_with state.old.state self.old)) }
+        ensures granted { OnOk result (run_with state.new.state self.new
+            ≡ after_grant built.now level (run_with state.old.state self.old)) }
         ensures layout { OnOk result (state.new.layout ≡ state.old.layout) }
-        ensures has { OnOk result (has_ids_for_level built.now level (run_with state.old.state self.old) ≡ true) }
+        ensures has { OnOk result (has_ids_for_level built.now level (run_with state.old.state
+            self.old)
+            ≡ true) }
         ensures suits { OnOk result (IsDeferredFor built.now self.new) }
-        ensures in_hand { OnOk result (AreInHand state.old.state.world.slots self.old → ((n : ℕ) → level_of built.now n ≡ level → commands_at self.old n ≡ []) → AreInHand state.new.state.world.slots self.new) }
-        ensures spent { IsErrOf result GrantFault.IdsSpent → has_ids_for_level built.now level (run_with state.old.state self.old) ≡ false }
+        ensures in_hand { OnOk result (AreInHand state.old.state.world.slots self.old
+            → ((n : ℕ) → level_of built.now n ≡ level → commands_at self.old n ≡ [])
+            → AreInHand state.new.state.world.slots self.new) }
+        ensures spent { IsErrOf result GrantFault.IdsSpent
+            → has_ids_for_level built.now level (run_with state.old.state self.old) ≡ false }
     {
         built.prove_law();
         if built.syncs() <= level {
@@ -194,11 +205,16 @@ impl Deferred {
         requires known { point < built.now.syncs }
         requires home { NoneRunsIn built.now self.old state.old }
         requires fresh { (n : ℕ) → level_of built.now n ≡ suc point → commands_at self.old n ≡ [] }
-        ensures synced { OnOk result (run_with state.new.state self.new ≡ after_sync built.now point (run_with state.old.state self.old)) }
-        ensures can { OnOk result (can_sync built.now point (run_with state.old.state self.old) ≡ true) }
+        ensures synced { OnOk result (run_with state.new.state self.new
+            ≡ after_sync built.now point (run_with state.old.state self.old)) }
+        ensures can { OnOk result (can_sync built.now point (run_with state.old.state self.old)
+            ≡ true) }
         ensures home { OnOk result (NoneRunsIn built.now self.new state.new) }
-        ensures quiet { IfOk result (λ commanded. commanded ≡ false → kind_sets_of state.new.state.world.slots ≡ kind_sets_of state.old.state.world.slots) }
-        ensures stopped { IfErr result (StopsBy false (CannotSync built.now point (run_with state.old.state self.old))) }
+        ensures quiet { IfOk result (λ commanded. commanded ≡ false
+            → kind_sets_of state.new.state.world.slots
+            ≡ kind_sets_of state.old.state.world.slots) }
+        ensures stopped { IfErr result (StopsBy false (CannotSync built.now point (run_with
+            state.old.state self.old))) }
     {
         built.prove_law();
         let commanded = self.finish_level(alloc, built, state, point)?;
@@ -218,10 +234,13 @@ impl Deferred {
     ) -> Result<bool, Stop>
         requires known { point < built.now.syncs }
         requires home { NoneRunsIn built.now self.old state.old }
-        ensures synced { OnOk result (run_with state.new.state self.new ≡ after_commands built.now point (run_with state.old.state self.old)) }
+        ensures synced { OnOk result (run_with state.new.state self.new
+            ≡ after_commands built.now point (run_with state.old.state self.old)) }
         ensures ticked { OnOk result (has_tick state.old.state ≡ true) }
         ensures home { OnOk result (NoneRunsIn built.now self.new state.new) }
-        ensures quiet { IfOk result (λ commanded. commanded ≡ false → kind_sets_of state.new.state.world.slots ≡ kind_sets_of state.old.state.world.slots) }
+        ensures quiet { IfOk result (λ commanded. commanded ≡ false
+            → kind_sets_of state.new.state.world.slots
+            ≡ kind_sets_of state.old.state.world.slots) }
         ensures stopped { IfErr result (StopsBy false (LacksTick state.old.state)) }
     {
         built.prove_law();
@@ -293,7 +312,13 @@ fn clear_places(commands: &mut [CommandBuffer], grants: &mut [Granted], level: &
 // Frees each id granted to these systems that is granted still.
 fn free_ids(state: &mut OpenState, grants: &[Granted], level: &[u32])
     requires { All (λ n. n < length grants.now) level.now }
-    ensures { state.new ≡ record { state = with_slots_in (release (grants_of grants.now level.now) state.old.state.world.slots) state.old.state; layout = state.old.layout } }
+    ensures { state.new
+        ≡ record {
+          state = with_slots_in
+              (release (grants_of grants.now level.now) state.old.state.world.slots)
+              state.old.state;
+          layout = state.old.layout;
+        } }
 {
     for system in level {
         let granted = &grants[*system as usize];
@@ -304,7 +329,8 @@ fn free_ids(state: &mut OpenState, grants: &[Granted], level: &[u32])
 // The systems of each level, in schedule order.
 fn levels_of(alloc: Global, built: &Built) -> Result<Vec<Level>, AllocError>
     ensures count { IfOk result (λ levels. length levels.items ≡ built.now.syncs) }
-    ensures each { IfOk result (λ levels. (k : ℕ) → k < built.now.syncs → get_or levels.items k [] ≡ systems_of_level built.now k) }
+    ensures each { IfOk result (λ levels. (k : ℕ) → k < built.now.syncs
+        → get_or levels.items k [] ≡ systems_of_level built.now k) }
 {
     built.prove_law();
     let mut levels = no_levels(alloc, built.syncs())?;

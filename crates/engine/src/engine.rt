@@ -58,18 +58,35 @@ impl<B: Body> Model for Engine<B> {
 
     ghost coded = { engine_code B.code };
 
-    ghost view = { λ e. record { schedule = e.built; bodies = e.bodies; state = e.state; spoiled = e.spoiled } };
+    ghost view = { λ e. record {
+      schedule = e.built;
+      bodies = e.bodies;
+      state = e.state;
+      spoiled = e.spoiled;
+    } };
 
-    ghost invariant = { λ e. e.spoiled ≡ false → Suits B.fits e.built e.bodies e.state × AllKeepWithin e.built (meanings B.meaning e.built e.bodies) × IsDeferredFor e.built e.deferred };
+    ghost invariant = { λ e. e.spoiled ≡ false
+        → Suits B.fits e.built e.bodies e.state
+        × AllKeepWithin e.built (meanings B.meaning e.built e.bodies)
+        × IsDeferredFor e.built e.deferred };
 }
 
 impl<B: Body> Engine<B> {
     /// An engine that is not spoiled. It is refused with `Count` where there isn't a body and a memory for each system and a memory for each
     /// condition, each memory with a cursor for each event reader, else with `Misfit` for the least system whose body doesn't fit its parameters; what was handed in is dropped.
     pub fn new(alloc: Global, built: Built, bodies: Vec<B>, state: State) -> Result<Self, NewFault>
-        ensures ok { IfOk result (λ engine. engine ≡ record { schedule = built; bodies = map Some bodies.items; state = state; spoiled = false }) }
-        ensures count { IsErrOf result NewFault.Count ↔ Miscounts built (map Some bodies.items) state }
-        ensures misfit { (n : ℕ) → IsErrOf result (NewFault.Misfit n) ↔ IsFirstMisfit B.fits built (map Some bodies.items) state n }
+        ensures ok { IfOk result (λ engine. engine
+            ≡ record {
+              schedule = built;
+              bodies = map Some bodies.items;
+              state = state;
+              spoiled = false;
+            }) }
+        ensures count { IsErrOf result NewFault.Count
+            ↔ Miscounts built (map Some bodies.items) state }
+        ensures misfit { (n : ℕ)
+            → IsErrOf result (NewFault.Misfit n)
+            ↔ IsFirstMisfit B.fits built (map Some bodies.items) state n }
     {
         if let Err(fault) = check_parts(&built, &bodies, &state) {
             return Err(fault);
@@ -102,14 +119,21 @@ impl<B: Body> Engine<B> {
     ) -> Result<Vec<Trace>, RunFault>
     where
         B: 's,
-        ensures ran { IfOk result (λ traces. RunsAs (M.width mode.now) self.old.schedule (meanings B.meaning self.old.schedule self.old.bodies) times self.old.state self.new.state traces.items) }
-        ensures stopped { IfErr result (StopsAs (M.has_scope mode.now) (M.width mode.now) self.old.schedule (meanings B.meaning self.old.schedule self.old.bodies) times self.old.state) }
+        ensures ran { IfOk result (λ traces. RunsAs (M.width mode.now) self.old.schedule
+            (meanings B.meaning self.old.schedule self.old.bodies) times self.old.state
+            self.new.state traces.items) }
+        ensures stopped { IfErr result (StopsAs (M.has_scope mode.now) (M.width mode.now)
+            self.old.schedule (meanings B.meaning self.old.schedule self.old.bodies) times
+            self.old.state) }
         ensures spoiled { IsErrOf result RunFault.Spoiled ↔ IsTrue self.old.spoiled }
         ensures spoils { IsTrue self.new.spoiled ↔ IsErr result }
         ensures unchanged { result ≡ Err RunFault.Spoiled → self.new ≡ self.old }
         ensures schedule { self.new.schedule ≡ self.old.schedule }
-        ensures meanings { (result ≡ Err RunFault.NoWorker → IsTrue (M.stands mode.now)) → meanings B.meaning self.old.schedule self.new.bodies ≡ meanings B.meaning self.old.schedule self.old.bodies }
-        ensures fit { (result ≡ Err RunFault.NoWorker → IsTrue (M.stands mode.now)) → self.old.spoiled ≡ false → AreFit B.fits self.old.schedule self.new.bodies }
+        ensures meanings { (result ≡ Err RunFault.NoWorker → IsTrue (M.stands mode.now))
+            → meanings B.meaning self.old.schedule self.new.bodies
+            ≡ meanings B.meaning self.old.schedule self.old.bodies }
+        ensures fit { (result ≡ Err RunFault.NoWorker → IsTrue (M.stands mode.now))
+            → self.old.spoiled ≡ false → AreFit B.fits self.old.schedule self.new.bodies }
     {
         run_engine(self, alloc, times, mode)
     }
@@ -129,14 +153,21 @@ fn run_engine<'s, M: Mode<'s>, B: Body + 's>(
     times: u32,
     mode: &M,
 ) -> Result<Vec<Trace>, RunFault>
-    ensures ran { IfOk result (λ traces. RunsAs (M.width mode.now) engine.old.schedule (meanings B.meaning engine.old.schedule engine.old.bodies) times engine.old.state engine.new.state traces.items) }
-    ensures stopped { IfErr result (StopsAs (M.has_scope mode.now) (M.width mode.now) engine.old.schedule (meanings B.meaning engine.old.schedule engine.old.bodies) times engine.old.state) }
+    ensures ran { IfOk result (λ traces. RunsAs (M.width mode.now) engine.old.schedule
+        (meanings B.meaning engine.old.schedule engine.old.bodies) times engine.old.state
+        engine.new.state traces.items) }
+    ensures stopped { IfErr result (StopsAs (M.has_scope mode.now) (M.width mode.now)
+        engine.old.schedule (meanings B.meaning engine.old.schedule engine.old.bodies) times
+        engine.old.state) }
     ensures spoiled { IsErrOf result RunFault.Spoiled ↔ IsTrue engine.old.spoiled }
     ensures spoils { IsTrue engine.new.spoiled ↔ IsErr result }
     ensures unchanged { result ≡ Err RunFault.Spoiled → engine.new ≡ engine.old }
     ensures schedule { engine.new.schedule ≡ engine.old.schedule }
-    ensures meanings { (result ≡ Err RunFault.NoWorker → IsTrue (M.stands mode.now)) → meanings B.meaning engine.old.schedule engine.new.bodies ≡ meanings B.meaning engine.old.schedule engine.old.bodies }
-    ensures fit { (result ≡ Err RunFault.NoWorker → IsTrue (M.stands mode.now)) → engine.old.spoiled ≡ false → AreFit B.fits engine.old.schedule engine.new.bodies }
+    ensures meanings { (result ≡ Err RunFault.NoWorker → IsTrue (M.stands mode.now))
+        → meanings B.meaning engine.old.schedule engine.new.bodies
+        ≡ meanings B.meaning engine.old.schedule engine.old.bodies }
+    ensures fit { (result ≡ Err RunFault.NoWorker → IsTrue (M.stands mode.now))
+        → engine.old.spoiled ≡ false → AreFit B.fits engine.old.schedule engine.new.bodies }
 {
     if engine.spoiled {
         return Err(RunFault::Spoiled);

@@ -54,7 +54,8 @@ fn conditions_of(alloc: Global, built: &Built) -> Result<Vec<Memory>, AllocError
 
 /// Whether a state lacks memories of a schedule.
 pub(crate) fn lacks_memories(built: &Built, state: &State) -> bool
-    ensures { MatchBool result (LacksMemories built.now state.now) (HasMemories built.now state.now) }
+    ensures { MatchBool result (LacksMemories built.now state.now) (HasMemories built.now
+        state.now) }
 {
     if has_memories(built, state) {
         return false;
@@ -64,7 +65,8 @@ pub(crate) fn lacks_memories(built: &Built, state: &State) -> bool
 
 // Whether a state has the memories of a schedule.
 fn has_memories(built: &Built, state: &State) -> bool
-    ensures { MatchBool result (HasMemories built.now state.now) (LacksMemories built.now state.now) }
+    ensures { MatchBool result (HasMemories built.now state.now) (LacksMemories built.now
+        state.now) }
 {
     if state.systems() != built.count() as usize {
         return false;

@@ -19,9 +19,13 @@ pub(crate) fn check_parts<B: Body>(
     state: &State,
 ) -> Result<(), NewFault>
     ensures suits { OnOk result (Suits B.fits built.now (map Some bodies.now) state.now) }
-    ensures keep { OnOk result (AllKeepWithin built.now (meanings B.meaning built.now (map Some bodies.now))) }
-    ensures count { IsErrOf result NewFault.Count ↔ Miscounts built.now (map Some bodies.now) state.now }
-    ensures misfit { (n : ℕ) → IsErrOf result (NewFault.Misfit n) ↔ IsFirstMisfit B.fits built.now (map Some bodies.now) state.now n }
+    ensures keep { OnOk result (AllKeepWithin built.now (meanings B.meaning built.now (map Some
+        bodies.now))) }
+    ensures count { IsErrOf result NewFault.Count
+        ↔ Miscounts built.now (map Some bodies.now) state.now }
+    ensures misfit { (n : ℕ)
+        → IsErrOf result (NewFault.Misfit n)
+        ↔ IsFirstMisfit B.fits built.now (map Some bodies.now) state.now n }
     ensures memory { result ≡ Err NewFault.Memory → ⊥ }
 {
     if bodies.len() != built.count() as usize {
@@ -41,9 +45,12 @@ pub(crate) fn first_misfit<B: Body>(built: &Built, bodies: &[B]) -> Option<u32>
     requires { length bodies.now ≡ length built.now.systems }
     ensures known { IfSome result (λ n. n < length built.now.systems) }
     ensures misfit { IfSome result (λ n. fits_at B.fits built.now (map Some bodies.now) n ≡ false) }
-    ensures least { IfSome result (λ n. (m : ℕ) → m < n → fits_at B.fits built.now (map Some bodies.now) m ≡ true) }
-    ensures none { IfNone result ((m : ℕ) → m < length built.now.systems → fits_at B.fits built.now (map Some bodies.now) m ≡ true) }
-    ensures keep { IfNone result (AllKeepWithin built.now (meanings B.meaning built.now (map Some bodies.now))) }
+    ensures least { IfSome result (λ n. (m : ℕ) → m < n
+        → fits_at B.fits built.now (map Some bodies.now) m ≡ true) }
+    ensures none { IfNone result ((m : ℕ) → m < length built.now.systems
+        → fits_at B.fits built.now (map Some bodies.now) m ≡ true) }
+    ensures keep { IfNone result (AllKeepWithin built.now (meanings B.meaning built.now (map Some
+        bodies.now))) }
 {
     for system in 0..built.count() {
         if !body_fits(built, bodies, system) {
@@ -59,7 +66,9 @@ fn body_fits<B: Body>(built: &Built, bodies: &[B], system: u32) -> bool
     requires count { length bodies.now ≡ length built.now.systems }
     requires known { system < length built.now.systems }
     ensures exact { result ≡ fits_at B.fits built.now (map Some bodies.now) system }
-    ensures keeps { IsTrue result → KeepsWithin (params_of built.now system) (body_of (meanings B.meaning built.now (map Some bodies.now)) system) }
+    ensures keeps { IsTrue result
+        → KeepsWithin (params_of built.now system) (body_of
+        (meanings B.meaning built.now (map Some bodies.now)) system) }
 {
     bodies[system as usize].fits(built.params(system))
 }
@@ -67,7 +76,8 @@ fn body_fits<B: Body>(built: &Built, bodies: &[B], system: u32) -> bool
 /// Bodies that fit their systems keep within the parameters of each.
 pub fn prove_fitting_keep<B: Body>(built: &Built, bodies: &[B])
     requires count { length bodies.now ≡ length built.now.systems }
-    requires fit { (n : ℕ) → n < length built.now.systems → fits_at B.fits built.now (map Some bodies.now) n ≡ true }
+    requires fit { (n : ℕ) → n < length built.now.systems
+        → fits_at B.fits built.now (map Some bodies.now) n ≡ true }
     ensures { AllKeepWithin built.now (meanings B.meaning built.now (map Some bodies.now)) }
 {
     match first_misfit(built, bodies) {

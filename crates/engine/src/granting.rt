@@ -44,9 +44,18 @@ impl Spawners {
     ) -> Result<(), GrantFault>
         requires { All (λ n. n < length grants.old) self.old.systems }
         ensures same { self.new ≡ self.old }
-        ensures granted { OnOk result (state.new ≡ record { state = with_slots_in (grant_each self.old.counts state.old.state.world.slots) state.old.state; layout = state.old.layout }) }
-        ensures noted { OnOk result (grants.new ≡ noted_each self.old.systems (ids_of_each self.old.counts state.old.state.world.slots) grants.old) }
-        ensures spent { IsErrOf result GrantFault.IdsSpent ↔ (has_ids_for_each self.old.counts state.old.state.world.slots ≡ false) }
+        ensures granted { OnOk result (state.new
+            ≡ record {
+              state = with_slots_in
+                  (grant_each self.old.counts state.old.state.world.slots)
+                  state.old.state;
+              layout = state.old.layout;
+            }) }
+        ensures noted { OnOk result (grants.new
+            ≡ noted_each self.old.systems
+            (ids_of_each self.old.counts state.old.state.world.slots) grants.old) }
+        ensures spent { IsErrOf result GrantFault.IdsSpent
+            ↔ (has_ids_for_each self.old.counts state.old.state.world.slots ≡ false) }
     {
         state.grant_level(alloc, &self.counts, &mut self.given)?;
         note_grants(grants, &self.systems, &mut self.given);

@@ -42,14 +42,28 @@ pub(crate) fn start<'s, M: Mode<'s>, B: Body + 's>(
     system: u32,
 ) -> Result<(), Stop>
     requires allowed { CanBegin built.now system run.old.deferred jobs.old.pool run.old.state }
-    requires placed { (bodies : List BodyMeaning) × Placed B.meaning B.fits (M.has_scope mode.now) built.now bodies jobs.old.bodies jobs.old.pool run.old.state }
+    requires placed { (bodies : List BodyMeaning)
+        × Placed B.meaning B.fits (M.has_scope mode.now) built.now bodies jobs.old.bodies
+        jobs.old.pool run.old.state }
     requires hand { InHand built.now run.old.deferred jobs.old.pool run.old.state }
-    ensures started { OnOk result ((bodies : List BodyMeaning) → interleaved_step built.now bodies (Begin system) (woven run.old.state.state run.old.deferred jobs.old.pool) ≡ Some (woven run.new.state.state run.new.deferred jobs.new.pool)) }
-    ensures placed { OnOk result ((bodies : List BodyMeaning) → Placed B.meaning B.fits (M.has_scope mode.now) built.now bodies jobs.old.bodies jobs.old.pool run.old.state → Placed B.meaning B.fits (M.has_scope mode.now) built.now bodies jobs.new.bodies jobs.new.pool run.new.state) }
+    ensures started { OnOk result ((bodies : List BodyMeaning)
+        → interleaved_step built.now bodies (Begin system) (woven run.old.state.state
+        run.old.deferred jobs.old.pool)
+        ≡ Some (woven run.new.state.state run.new.deferred jobs.new.pool)) }
+    ensures placed { OnOk result ((bodies : List BodyMeaning)
+        → Placed B.meaning B.fits (M.has_scope mode.now) built.now bodies jobs.old.bodies
+        jobs.old.pool run.old.state
+        → Placed B.meaning B.fits (M.has_scope mode.now) built.now bodies jobs.new.bodies
+        jobs.new.pool run.new.state) }
     ensures hand { OnOk result (InHand built.now run.new.deferred jobs.new.pool run.new.state) }
     ensures longer { OnOk result (length jobs.new.pool ≡ length jobs.old.pool + 1) }
-    ensures stopped { IfErr result (StopsBy (M.has_scope mode.now) (λ met. (bodies : List BodyMeaning) → interleaved_cause_of built.now bodies (Begin system) (woven run.old.state.state run.old.deferred jobs.old.pool) ≡ Some met)) }
-    ensures kept { IfErr result (λ told. (told ≡ stop.NoWorker → IsTrue (M.stands mode.now)) → (jobs.new.bodies ≡ jobs.old.bodies) × (jobs.new.pool ≡ jobs.old.pool)) }
+    ensures stopped { IfErr result (StopsBy (M.has_scope mode.now) (λ met. (bodies : List
+        BodyMeaning)
+        → interleaved_cause_of built.now bodies (Begin system) (woven run.old.state.state
+        run.old.deferred jobs.old.pool)
+        ≡ Some met)) }
+    ensures kept { IfErr result (λ told. (told ≡ stop.NoWorker → IsTrue (M.stands mode.now))
+        → (jobs.new.bodies ≡ jobs.old.bodies) × (jobs.new.pool ≡ jobs.old.pool)) }
 {
     run.state.prove_law();
     let view = run.show(built, system)?;
@@ -88,15 +102,44 @@ pub(crate) fn finish<'s, M: Mode<'s>, B: Body + 's>(
     mode: &M,
 ) -> Result<u32, Stop>
     requires out { 0 < length jobs.old.pool }
-    requires placed { (bodies : List BodyMeaning) × Placed B.meaning B.fits (M.has_scope mode.now) built.now bodies jobs.old.bodies jobs.old.pool run.old.state }
+    requires placed { (bodies : List BodyMeaning)
+        × Placed B.meaning B.fits (M.has_scope mode.now) built.now bodies jobs.old.bodies
+        jobs.old.pool run.old.state }
     requires suits { IsDeferredFor built.now run.old.deferred }
-    ensures running { IfOk result (λ n. (job : JobOut B) × IsIn job jobs.old.pool × (job.system ≡ n)) }
-    ensures finished { IfOk result (λ n. (bodies : List BodyMeaning) → Placed B.meaning B.fits (M.has_scope mode.now) built.now bodies jobs.old.bodies jobs.old.pool run.old.state → interleaved_step built.now bodies (Finish n) (woven run.old.state.state run.old.deferred jobs.old.pool) ≡ Some (woven run.new.state.state run.new.deferred jobs.new.pool)) }
-    ensures placed { OnOk result ((bodies : List BodyMeaning) → Placed B.meaning B.fits (M.has_scope mode.now) built.now bodies jobs.old.bodies jobs.old.pool run.old.state → Placed B.meaning B.fits (M.has_scope mode.now) built.now bodies jobs.new.bodies jobs.new.pool run.new.state) }
-    ensures hand { OnOk result ((bodies : List BodyMeaning) → Placed B.meaning B.fits (M.has_scope mode.now) built.now bodies jobs.old.bodies jobs.old.pool run.old.state → AllKeepWithin built.now bodies → InHand built.now run.old.deferred jobs.old.pool run.old.state → InHand built.now run.new.deferred jobs.new.pool run.new.state) }
+    ensures running { IfOk result (λ n. (job : JobOut B) × IsIn job jobs.old.pool
+        × (job.system ≡ n)) }
+    ensures finished { IfOk result (λ n. (bodies : List BodyMeaning)
+        → Placed B.meaning B.fits (M.has_scope mode.now) built.now bodies jobs.old.bodies
+        jobs.old.pool run.old.state
+        → interleaved_step built.now bodies (Finish n) (woven run.old.state.state
+        run.old.deferred jobs.old.pool)
+        ≡ Some (woven run.new.state.state run.new.deferred jobs.new.pool)) }
+    ensures placed { OnOk result ((bodies : List BodyMeaning)
+        → Placed B.meaning B.fits (M.has_scope mode.now) built.now bodies jobs.old.bodies
+        jobs.old.pool run.old.state
+        → Placed B.meaning B.fits (M.has_scope mode.now) built.now bodies jobs.new.bodies
+        jobs.new.pool run.new.state) }
+    ensures hand { OnOk result ((bodies : List BodyMeaning)
+        → Placed B.meaning B.fits (M.has_scope mode.now) built.now bodies jobs.old.bodies
+        jobs.old.pool run.old.state
+        → AllKeepWithin built.now bodies
+        → InHand built.now run.old.deferred jobs.old.pool run.old.state
+        → InHand built.now run.new.deferred jobs.new.pool run.new.state) }
     ensures shorter { OnOk result (length jobs.new.pool + 1 ≡ length jobs.old.pool) }
-    ensures stopped { IfErr result (λ told. (bodies : List BodyMeaning) → Placed B.meaning B.fits (M.has_scope mode.now) built.now bodies jobs.old.bodies jobs.old.pool run.old.state → StopsBy (M.has_scope mode.now) (λ met. (job : JobOut B) × IsIn job jobs.old.pool × (interleaved_cause_of built.now bodies (Finish job.system) (woven run.old.state.state run.old.deferred jobs.old.pool) ≡ Some met)) told) }
-    ensures kept { IfErr result (λ told. (bodies : List BodyMeaning) → Placed B.meaning B.fits (M.has_scope mode.now) built.now bodies jobs.old.bodies jobs.old.pool run.old.state → AreKept B.meaning B.fits (M.has_scope mode.now) built.now bodies jobs.new.bodies jobs.new.pool) }
+    ensures stopped { IfErr result (λ told. (bodies : List BodyMeaning)
+        → Placed B.meaning B.fits (M.has_scope mode.now) built.now bodies jobs.old.bodies
+        jobs.old.pool run.old.state
+        → StopsBy (M.has_scope mode.now)
+        (λ met. (job : JobOut B) × IsIn job jobs.old.pool
+        × (interleaved_cause_of built.now bodies (Finish job.system) (woven
+        run.old.state.state run.old.deferred jobs.old.pool)
+        ≡ Some met))
+        told) }
+    ensures kept { IfErr result (λ told. (bodies : List BodyMeaning)
+        → Placed B.meaning B.fits (M.has_scope mode.now) built.now bodies jobs.old.bodies
+        jobs.old.pool run.old.state
+        → AreKept B.meaning B.fits (M.has_scope mode.now) built.now bodies jobs.new.bodies
+        jobs.new.pool) }
 {
     let Some(done) = jobs.pool.bring_back(mode) else {
         mode.prove_waits();
@@ -119,8 +162,14 @@ pub(crate) fn bring_home<'s, M: Mode<'s>, B: Body + 's>(
     jobs: &mut Jobs<B>,
     mode: &M,
 ) -> Result<(), Stop>
-    ensures kept { OnOk result ((s : Schedule) (bodies : List BodyMeaning) → AreKept B.meaning B.fits (M.has_scope mode.now) s bodies jobs.old.bodies jobs.old.pool → AreKept B.meaning B.fits (M.has_scope mode.now) s bodies jobs.new.bodies []) }
-    ensures lost { IfErr result (λ told. (told ≡ stop.NoWorker) × ((s : Schedule) (bodies : List BodyMeaning) → AreKept B.meaning B.fits (M.has_scope mode.now) s bodies jobs.old.bodies jobs.old.pool → ⊥)) }
+    ensures kept { OnOk result ((s : Schedule) (bodies : List BodyMeaning)
+        → AreKept B.meaning B.fits (M.has_scope mode.now) s bodies jobs.old.bodies jobs.old.pool
+        → AreKept B.meaning B.fits (M.has_scope mode.now) s bodies jobs.new.bodies []) }
+    ensures lost { IfErr result (λ told. (told ≡ stop.NoWorker)
+        × ((s : Schedule) (bodies : List BodyMeaning)
+        → AreKept B.meaning B.fits (M.has_scope mode.now) s bodies jobs.old.bodies
+        jobs.old.pool
+        → ⊥)) }
 {
     while jobs.pool.count() > 0 {
         let Some(done) = jobs.pool.bring_back(mode) else {
@@ -141,13 +190,27 @@ pub(crate) fn run_here<B: Body>(
     system: u32,
 ) -> Result<(), Stop>
     requires allowed { CanBegin {B = B} built.now system run.old.deferred [] run.old.state }
-    requires placed { (means : List BodyMeaning) × Placed B.meaning B.fits false built.now means bodies.old [] run.old.state }
+    requires placed { (means : List BodyMeaning)
+        × Placed B.meaning B.fits false built.now means bodies.old [] run.old.state }
     requires hand { InHand {B = B} built.now run.old.deferred [] run.old.state }
-    ensures ran { OnOk result ((means : List BodyMeaning) → Placed B.meaning B.fits false built.now means bodies.old [] run.old.state → IsRunAlone B built.now means system run.old.state.state run.old.deferred run.new.state.state run.new.deferred) }
-    ensures placed { OnOk result ((means : List BodyMeaning) → Placed B.meaning B.fits false built.now means bodies.old [] run.old.state → Placed B.meaning B.fits false built.now means bodies.new [] run.new.state) }
-    ensures hand { OnOk result ((means : List BodyMeaning) → Placed B.meaning B.fits false built.now means bodies.old [] run.old.state → AllKeepWithin built.now means → InHand {B = B} built.now run.new.deferred [] run.new.state) }
-    ensures stopped { IfErr result (λ told. (means : List BodyMeaning) → Placed B.meaning B.fits false built.now means bodies.old [] run.old.state → StopsBy false (StopsAlone B built.now means system run.old.state.state run.old.deferred) told) }
-    ensures kept { (means : List BodyMeaning) → Placed B.meaning B.fits false built.now means bodies.old [] run.old.state → AreKept B.meaning B.fits false built.now means bodies.new [] }
+    ensures ran { OnOk result ((means : List BodyMeaning)
+        → Placed B.meaning B.fits false built.now means bodies.old [] run.old.state
+        → IsRunAlone B built.now means system run.old.state.state run.old.deferred
+        run.new.state.state run.new.deferred) }
+    ensures placed { OnOk result ((means : List BodyMeaning)
+        → Placed B.meaning B.fits false built.now means bodies.old [] run.old.state
+        → Placed B.meaning B.fits false built.now means bodies.new [] run.new.state) }
+    ensures hand { OnOk result ((means : List BodyMeaning)
+        → Placed B.meaning B.fits false built.now means bodies.old [] run.old.state
+        → AllKeepWithin built.now means
+        → InHand {B = B} built.now run.new.deferred [] run.new.state) }
+    ensures stopped { IfErr result (λ told. (means : List BodyMeaning)
+        → Placed B.meaning B.fits false built.now means bodies.old [] run.old.state
+        → StopsBy false
+        (StopsAlone B built.now means system run.old.state.state run.old.deferred) told) }
+    ensures kept { (means : List BodyMeaning)
+        → Placed B.meaning B.fits false built.now means bodies.old [] run.old.state
+        → AreKept B.meaning B.fits false built.now means bodies.new [] }
 {
     run.state.prove_law();
     let mut view = run.show(built, system)?;

@@ -41,11 +41,14 @@ impl RunState {
     pub fn open(&mut self, built: &Built) -> Result<(), Stop>
         requires suits { IsDeferredFor built.now self.old.deferred }
         requires nothing { IsNothingDeferred self.old.deferred }
-        ensures opened { OnOk result (begin_run built.now self.old.state.state ≡ Some (run_with self.new.state.state self.new.deferred)) }
+        ensures opened { OnOk result (begin_run built.now self.old.state.state
+            ≡ Some (run_with self.new.state.state self.new.deferred)) }
         ensures layout { OnOk result (self.new.state.layout ≡ self.old.state.layout) }
         ensures suits { OnOk result (IsDeferredFor built.now self.new.deferred) }
-        ensures in_hand { OnOk result (AreInHand self.new.state.state.world.slots self.new.deferred) }
-        ensures sets { OnOk result (kind_sets_of self.new.state.state.world.slots ≡ kind_sets_of self.old.state.state.world.slots) }
+        ensures in_hand { OnOk result (AreInHand self.new.state.state.world.slots
+            self.new.deferred) }
+        ensures sets { OnOk result (kind_sets_of self.new.state.state.world.slots
+            ≡ kind_sets_of self.old.state.state.world.slots) }
         ensures stopped { IfErr result (StopsBy false (CannotOpen built.now self.old.state.state)) }
     {
         self.state.begin()?;
@@ -57,9 +60,16 @@ impl RunState {
     pub fn ask(&mut self, built: &Built, condition: u32) -> Result<bool, Stop>
         requires known { condition < length built.now.conditions }
         requires memories { HasMemories built.now self.old.state.state }
-        requires home { AllByRecursion (λ query. ArePickedHome query self.old.state.layout) (access_of built.now condition).queries }
-        ensures answer { IfOk result (λ answer. answer ≡ answer_of built.now condition (run_with self.old.state.state self.old.deferred)) }
-        ensures asked { OnOk result (self.new.state ≡ record { state = asked_at condition (access_of built.now condition).reads (next_tick self.old.state.state) (ticked self.old.state.state); layout = self.old.state.layout }) }
+        requires home { AllByRecursion (λ query. ArePickedHome query self.old.state.layout)
+            (access_of built.now condition).queries }
+        ensures answer { IfOk result (λ answer. answer
+            ≡ answer_of built.now condition (run_with self.old.state.state self.old.deferred)) }
+        ensures asked { OnOk result (self.new.state
+            ≡ record {
+              state = asked_at condition (access_of built.now condition).reads
+                  (next_tick self.old.state.state) (ticked self.old.state.state);
+              layout = self.old.state.layout;
+            }) }
         ensures ticked { OnOk result (has_tick self.old.state.state ≡ true) }
         ensures deferred { self.new.deferred ≡ self.old.deferred }
         ensures stopped { IfErr result (StopsBy false (LacksTick self.old.state.state)) }
@@ -81,9 +91,18 @@ impl RunState {
     /// which becomes the clock.
     pub fn show(&mut self, built: &Built, system: u32) -> Result<Box<View>, Stop>
         requires { MayBeShown built.now system self.old.deferred self.old.state }
-        ensures shown { IfOk result (λ view. IsShown built.now system self.old.deferred self.old.state view.value) }
-        ensures held { IfOk result (λ view. (others : List (List Column)) → AreOut (store_of self.old.state) others → AreOut (store_of self.new.state) (others ++ view.value.opening.taken)) }
-        ensures noted { IfOk result (λ view. self.new.state ≡ record { state = noted system (params_of built.now system).reads (next_tick self.old.state.state) (ticked self.old.state.state); layout = with_away (lent_in view.value.opening.taken) self.old.state.layout }) }
+        ensures shown { IfOk result (λ view. IsShown built.now system self.old.deferred
+            self.old.state view.value) }
+        ensures held { IfOk result (λ view. (others : List (List Column))
+            → AreOut (store_of self.old.state) others
+            → AreOut (store_of self.new.state) (others ++ view.value.opening.taken)) }
+        ensures noted { IfOk result (λ view. self.new.state
+            ≡ record {
+              state = noted system (params_of built.now system).reads
+                  (next_tick self.old.state.state) (ticked self.old.state.state);
+              layout = with_away (lent_in view.value.opening.taken)
+                  self.old.state.layout;
+            }) }
         ensures deferred { self.new.deferred ≡ self.old.deferred }
         ensures has { OnOk result (has_tick self.old.state.state ≡ true) }
         ensures stopped { IfErr result (StopsBy false (LacksTick self.old.state.state)) }
@@ -114,11 +133,24 @@ impl RunState {
         requires lent { AreLent (store_of self.old.state) view.value.opening.taken }
         requires past { view.value.opening.tick ≤ self.old.state.state.world.clock }
         ensures answer { OnOk result (answer ≡ Ok tt) }
-        ensures numbers { OnOk result (has_event_numbers (events_sent view.value.params.writes view.value.outcome.events) self.old.state.state.events ≡ true) }
-        ensures laid { OnOk result (self.new.state ≡ record { state = laid system view.value.opening.tick view.value self.old.state.state; layout = with_back (lent_in view.value.opening.taken) self.old.state.layout }) }
-        ensures held { OnOk result ((front rest : List (List Column)) → AreOut (store_of self.old.state) (front ++ (view.value.opening.taken ++ rest)) → AreOut (store_of self.new.state) (front ++ rest)) }
-        ensures deferred { OnOk result (self.new.deferred ≡ with_commands system view.value.outcome.commands self.old.deferred) }
-        ensures stopped { IfErr result (StopsBy false (IsNotLaid answer view.value self.old.state.state)) }
+        ensures numbers { OnOk result (has_event_numbers
+            (events_sent view.value.params.writes view.value.outcome.events)
+            self.old.state.state.events
+            ≡ true) }
+        ensures laid { OnOk result (self.new.state
+            ≡ record {
+              state = laid system view.value.opening.tick view.value
+                  self.old.state.state;
+              layout = with_back (lent_in view.value.opening.taken)
+                  self.old.state.layout;
+            }) }
+        ensures held { OnOk result ((front rest : List (List Column))
+            → AreOut (store_of self.old.state) (front ++ (view.value.opening.taken ++ rest))
+            → AreOut (store_of self.new.state) (front ++ rest)) }
+        ensures deferred { OnOk result (self.new.deferred
+            ≡ with_commands system view.value.outcome.commands self.old.deferred) }
+        ensures stopped { IfErr result (StopsBy false (IsNotLaid answer view.value
+            self.old.state.state)) }
     {
         answer?;
         let commands = self.state.close(view, system as usize)?;
@@ -132,12 +164,19 @@ impl RunState {
     pub fn sync(&mut self, built: &Built, point: u32) -> Result<bool, Stop>
         requires known { point < built.now.syncs }
         requires home { NoneRunsIn built.now self.old.deferred self.old.state }
-        requires fresh { (n : ℕ) → level_of built.now n ≡ suc point → commands_at self.old.deferred n ≡ [] }
-        ensures synced { OnOk result (run_with self.new.state.state self.new.deferred ≡ after_sync built.now point (run_with self.old.state.state self.old.deferred)) }
-        ensures can { OnOk result (can_sync built.now point (run_with self.old.state.state self.old.deferred) ≡ true) }
+        requires fresh { (n : ℕ) → level_of built.now n ≡ suc point
+            → commands_at self.old.deferred n ≡ [] }
+        ensures synced { OnOk result (run_with self.new.state.state self.new.deferred
+            ≡ after_sync built.now point (run_with self.old.state.state self.old.deferred)) }
+        ensures can { OnOk result (can_sync built.now point (run_with self.old.state.state
+            self.old.deferred)
+            ≡ true) }
         ensures home { OnOk result (NoneRunsIn built.now self.new.deferred self.new.state) }
-        ensures quiet { IfOk result (λ commanded. commanded ≡ false → kind_sets_of self.new.state.state.world.slots ≡ kind_sets_of self.old.state.state.world.slots) }
-        ensures stopped { IfErr result (StopsBy false (CannotSync built.now point (run_with self.old.state.state self.old.deferred))) }
+        ensures quiet { IfOk result (λ commanded. commanded ≡ false
+            → kind_sets_of self.new.state.state.world.slots
+            ≡ kind_sets_of self.old.state.state.world.slots) }
+        ensures stopped { IfErr result (StopsBy false (CannotSync built.now point (run_with
+            self.old.state.state self.old.deferred))) }
     {
         self.deferred
             .sync(self.alloc, built, &mut self.state, point)

@@ -44,7 +44,8 @@ pub(crate) fn next_turn(core: &Core<'_>, running: usize, width: usize) -> Option
     requires room { running ≤ width }
     requires some { 0 < width }
     requires stands { (sets : Option (List (List ℕ))) × (h : List Action) × Stands core.now sets h }
-    ensures { (sets : Option (List (List ℕ))) (h : List Action) → Stands core.now sets h → IsTurn (recording core.now.schedule sets) h running width result }
+    ensures { (sets : Option (List (List ℕ))) (h : List Action) → Stands core.now sets h
+        → IsTurn (recording core.now.schedule sets) h running width result }
 {
     if running == width {
         return Some(Turn::Collect);

@@ -35,14 +35,19 @@ impl<B: Body> Engine<B> {
     ) -> Result<Vec<Trace>, RunFault>
     where
         B: 's,
-        ensures ran { IfOk result (λ traces. RunsAs (M.width mode.now) self.old.schedule (meanings B.meaning self.old.schedule self.old.bodies) times self.old.state self.new.state traces.items) }
-        ensures stopped { IfErr result (StopsAs (M.has_scope mode.now) (M.width mode.now) self.old.schedule (meanings B.meaning self.old.schedule self.old.bodies) times self.old.state) }
+        ensures ran { IfOk result (λ traces. RunsAs (M.width mode.now) self.old.schedule
+            (meanings B.meaning self.old.schedule self.old.bodies) times self.old.state
+            self.new.state traces.items) }
+        ensures stopped { IfErr result (StopsAs (M.has_scope mode.now) (M.width mode.now)
+            self.old.schedule (meanings B.meaning self.old.schedule self.old.bodies) times
+            self.old.state) }
         ensures kept { OnErr result (self.new.state ≡ self.old.state) }
         ensures spoiled { IsErrOf result RunFault.Spoiled ↔ IsTrue self.old.spoiled }
         ensures spoils { self.new.spoiled ≡ self.old.spoiled }
         ensures unchanged { result ≡ Err RunFault.Spoiled → self.new ≡ self.old }
         ensures schedule { self.new.schedule ≡ self.old.schedule }
-        ensures meanings { meanings B.meaning self.old.schedule self.new.bodies ≡ meanings B.meaning self.old.schedule self.old.bodies }
+        ensures meanings { meanings B.meaning self.old.schedule self.new.bodies
+            ≡ meanings B.meaning self.old.schedule self.old.bodies }
     {
         if self.is_spoiled() {
             return Err(RunFault::Spoiled);
@@ -61,8 +66,11 @@ impl<B: Body> Engine<B> {
     /// Whether a run failed, and no state was set since. Where none did there are bodies and memories for the schedule.
     pub fn is_spoiled(&self) -> bool
         ensures value { result ≡ self.now.spoiled }
-        ensures suits { self.now.spoiled ≡ false → Suits B.fits self.now.schedule self.now.bodies self.now.state }
-        ensures keep { self.now.spoiled ≡ false → AllKeepWithin self.now.schedule (meanings B.meaning self.now.schedule self.now.bodies) }
+        ensures suits { self.now.spoiled ≡ false
+            → Suits B.fits self.now.schedule self.now.bodies self.now.state }
+        ensures keep { self.now.spoiled ≡ false
+            → AllKeepWithin self.now.schedule (meanings B.meaning self.now.schedule
+            self.now.bodies) }
     {
         self.spoiled
     }
@@ -80,9 +88,16 @@ impl<B: Body> Engine<B> {
     // Puts the engine back, whose bodies are there.
     fn put_back(&mut self, spare: SpareParts)
         requires suits { Suits B.fits self.old.schedule self.old.bodies spare.state }
-        requires keep { AllKeepWithin self.old.schedule (meanings B.meaning self.old.schedule self.old.bodies) }
+        requires keep { AllKeepWithin self.old.schedule (meanings B.meaning self.old.schedule
+            self.old.bodies) }
         requires deferred { IsDeferredFor self.old.schedule spare.deferred }
-        ensures { self.new ≡ record { schedule = self.old.schedule; bodies = self.old.bodies; state = spare.state; spoiled = false } }
+        ensures { self.new
+            ≡ record {
+              schedule = self.old.schedule;
+              bodies = self.old.bodies;
+              state = spare.state;
+              spoiled = false;
+            } }
     {
         let SpareParts { state, deferred } = spare;
         self.state = state;

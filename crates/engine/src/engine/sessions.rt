@@ -24,7 +24,8 @@ impl<B: Body> Engine<B> {
     pub fn input(&mut self, alloc: Global, input: &Input) -> Result<Option<Entity>, InputFault>
         ensures can { OnOk result (can_input (input_of input.now) self.old.state ≡ true) }
         ensures id { IfOk result (λ id. id ≡ input_id (input_of input.now) self.old.state) }
-        ensures taken { OnOk result (self.new ≡ with_state (after_input (input_of input.now) self.old.state) self.old) }
+        ensures taken { OnOk result (self.new
+            ≡ with_state (after_input (input_of input.now) self.old.state) self.old) }
         ensures refused { IfErr result (IsInputFault (input_of input.now) self.old.state) }
         ensures spoiled { IsErrOf result InputFault.Spoiled ↔ IsTrue self.old.spoiled }
         ensures err { OnErr result (self.new ≡ self.old) }
@@ -44,7 +45,8 @@ impl<B: Body> Engine<B> {
     pub fn set_state(&mut self, alloc: Global, state: State) -> Result<(), SetFault>
         ensures ok { OnOk result (self.new ≡ mended_with state self.old) }
         ensures count { IsErrOf result SetFault.Count ↔ LacksMemories self.old.schedule state }
-        ensures bodies { IsErrOf result SetFault.Bodies → AreFit B.fits self.old.schedule self.old.bodies → ⊥ }
+        ensures bodies { IsErrOf result SetFault.Bodies
+            → AreFit B.fits self.old.schedule self.old.bodies → ⊥ }
         ensures err { OnErr result (self.new ≡ self.old) }
     {
         if lacks_memories(&self.built, &state) {
@@ -79,8 +81,12 @@ impl<B: Body> Engine<B> {
 
     // Whether each system has its body, which fits it: so it is unless a run stopped. If so, they keep within their parameters.
     fn has_bodies(&self) -> bool
-        ensures fit { MatchBool result (AreFit B.fits self.now.schedule self.now.bodies) (AreFit B.fits self.now.schedule self.now.bodies → ⊥) }
-        ensures keep { IsTrue result → AllKeepWithin self.now.schedule (meanings B.meaning self.now.schedule self.now.bodies) }
+        ensures fit { MatchBool result (AreFit B.fits self.now.schedule self.now.bodies) (AreFit
+            B.fits self.now.schedule self.now.bodies
+            → ⊥) }
+        ensures keep { IsTrue result
+            → AllKeepWithin self.now.schedule (meanings B.meaning self.now.schedule
+            self.now.bodies) }
     {
         if !self.spoiled {
             return true;

@@ -21,7 +21,7 @@ use Rattle.engine.proofs.Placing.{placed_kept}
 use Rattle.engine.proofs.Staging.{stage_start, stage_ask, stage_skip, stage_finish, running_there, none_out, stops_start, stops_ask, stops_sync, stops_finish, stops_plain}
 use Rattle.engine.proofs.Recorded.{listed_synced, stage_synced}
 use Rattle.engine.proofs.Remembering.{memories_synced}
-use Rattle.engine.proofs.Stops.{stops_among, stops_up}
+use Rattle.engine.proofs.Stops.{none_ok, stops_among, stops_up}
 use Rattle.engine.proofs.Turns.{start_allowed, ask_allowed, sync_fresh, placed_asked, placed_synced, in_hand_none, in_hand_asked, home_end}
 use Rattle.engine.proofs.coordinator.do_turn.Goals as goal
 use Rattle.model.proofs.lists.Results.{handed_on}
@@ -167,8 +167,6 @@ returns-in_ok-system-in-Collect-clause-taken g c = rw c.plain.ensures (λ sets b
       };
     })
 
--- ---- only a sync point may leave other kind sets
-
 -- ---- what starts no system
 
 pub do_plain-requires-clause-next : goal.do_plain-requires-clause-next
@@ -188,6 +186,51 @@ do_plain-requires-clause-next g c κs within =
     let h = c.requires.next.3 in
     let known = c.requires.next.4 in
     (there, width, sets, bodies, start, h, slots, out, record { between = known.between; take = subst (λ (t : Turn). IsTurn (recording s sets) h (length out) width (Some t)) c.in-Take.is known.following })
+
+pub returns-in_err-done-in-Take : goal.returns-in_err-done-in-Take
+returns-in_err-done-in-Take g c =
+    let meaning = g.B.Body.meaning in
+    let fits = g.B.Body.fits in
+    let there = g.M.SpawnThreads.has_scope c.args.mode.now in
+    let width = g.M.Mode.width c.args.mode.now in
+    let s = c.args.built.now in
+    let slots = c.args.jobs.now.bodies in
+    let deferred = c.args.run.now.deferred in
+    let out = c.args.jobs.now.pool in
+    let w = c.args.run.now.state in
+    let told = c.in_err-done-in-Take.field-0.0 in
+    let result = c.from_residual-in_err-done-in-Take.result in
+    let is = c.from_residual-in_err-done-in-Take.ensures.1 in
+    record {
+      taken = none_ok _ _ result is;
+      quiet = none_ok _ _ result is;
+      stopped = handed_on (StopsNext meaning fits there width s slots deferred out w c.args.turn) result told is
+          (λ sets bodies start h known. c.in_err-done-in-Take.ensures.stopped there width sets bodies start h slots out
+          (record { between = known.between; take = subst (λ (t : Turn). IsTurn (recording s sets) h (length out) width (Some t)) c.in-Take.is known.following }));
+      kept = handed_on (KeepsNext meaning fits there (g.M.Mode.stands c.args.mode.now) width s slots deferred out w c.args.turn slots out) result told is
+          (λ lost sets bodies start h known. placed_kept meaning fits there s bodies slots out w known.between.placed);
+    }
+
+pub returns-in_ok-done-in-Take : goal.returns-in_ok-done-in-Take
+returns-in_ok-done-in-Take g c =
+    let meaning = g.B.Body.meaning in
+    let fits = g.B.Body.fits in
+    let there = g.M.SpawnThreads.has_scope c.args.mode.now in
+    let width = g.M.Mode.width c.args.mode.now in
+    let s = c.args.built.now in
+    let slots = c.args.jobs.now.bodies in
+    let deferred = c.args.run.now.deferred in
+    let out = c.args.jobs.now.pool in
+    let w = c.args.run.now.state in
+    record {
+      taken = λ sets bodies start h known. c.in_ok-done-in-Take.ensures.taken there width sets bodies start h slots out
+          (record { between = known.between; take = subst (λ (t : Turn). IsTurn (recording s sets) h (length out) width (Some t)) c.in-Take.is known.following });
+      quiet = c.in_ok-done-in-Take.ensures.quiet;
+      stopped = tt;
+      kept = tt;
+    }
+
+-- ---- only a sync point may leave other kind sets
 
 pub returns-in-Start-clause-quiet : goal.returns-in-Start-clause-quiet
 returns-in-Start-clause-quiet g c = rw c.plain-in-Start.ensures (λ k is none. absurd (let clash = is in cc))

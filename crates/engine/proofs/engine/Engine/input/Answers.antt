@@ -29,6 +29,9 @@ invariant_of-self-2 g c = λ sound.
     let input = input_of c.args.input.now in
     let old = c.self.invariant sound in
     let left : c.into_state.result ≡ after_input input c.self.inside.state
-    = c.into_state.ensures ∙ c.in_ok-answer.ensures.state ∙ ap (after_input input) (c.into_open-state.ensures.state ∙ c.replace.ensures.value) in
-    (subst (λ (w : State). Suits g.B.Body.fits c.self.inside.built c.self.inside.bodies w) (sym left)
-    (suits_put g.B.Body.fits c.self.inside.built c.self.inside.bodies input c.self.inside.state old.0), old.1, old.2)
+    = c.into_state.ensures ∙ c.in_ok-answer.ensures.state ∙ ap (after_input input) (c.into_open-state.ensures.state ∙ c.replace.ensures.value) in (
+      subst (λ (w : State). Suits g.B.Body.fits c.self.inside.built c.self.inside.bodies w) (sym left)
+          (suits_put g.B.Body.fits c.self.inside.built c.self.inside.bodies input c.self.inside.state old.0),
+      old.1,
+      old.2,
+    )

@@ -13,9 +13,12 @@ returns-then-lacks_memories-clause-count g c =
 pub invariant_of-self : goal.invariant_of-self
 invariant_of-self g c = λ _.
     let fit = subst (λ (v : EngineValue g.row.B.Denot). AreFit g.B.Body.fits v.schedule v.bodies) (sym c.self.view_is) c.if-not-has_bodies.ensures.fit in
-    let keep = subst (λ (v : EngineValue g.row.B.Denot). AllKeepWithin v.schedule (meanings g.B.Body.meaning v.schedule v.bodies)) (sym c.self.view_is) (c.if-not-has_bodies.ensures.keep refl) in
-    (record {
-      body_count = fit.body_count;
-      memories = subst (λ (w : State). HasMemories c.self.inside.built w) (sym c.keep_shapes.ensures) c.if-lacks_memories.ensures;
-      fit = fit.fit;
-    }, keep, c.in_ok-deferred.ensures.suits)
+    let keep = subst (λ (v : EngineValue g.row.B.Denot). AllKeepWithin v.schedule (meanings g.B.Body.meaning v.schedule v.bodies)) (sym c.self.view_is) (c.if-not-has_bodies.ensures.keep refl) in (
+      record {
+        body_count = fit.body_count;
+        memories = subst (λ (w : State). HasMemories c.self.inside.built w) (sym c.keep_shapes.ensures) c.if-lacks_memories.ensures;
+        fit = fit.fit;
+      },
+      keep,
+      c.in_ok-deferred.ensures.suits,
+    )
