@@ -29,65 +29,92 @@ const THIRD: Entity = Entity {
 // A health of nine.
 const NINE: Health = Health { v: 9 };
 
-// Puts an input in, once more where an allocation fails: then nothing may have changed. The id that it gives.
-fn put(engine: &mut TestEngine, alloc: Global, input: &Input) -> Option<Option<Entity>> {
-    let clock = engine.state().world().now();
-    match engine.input(alloc, input) {
-        Ok(id) => Some(id),
-        Err(InputFault::Memory) if engine.state().world().now() == clock => {
-            engine.input(alloc, input).ok()
+// An engine that a host drives, and whether each input that was refused left it as it was.
+#[derive(Drop)]
+struct Host {
+    engine: TestEngine,
+    is_kept: bool,
+}
+
+impl Host {
+    // The system that moves, from tick 1 on.
+    fn new(alloc: Global) -> Option<Host> {
+        let engine = moving(alloc, Clock::at(1))?;
+        Some(Host {
+            engine,
+            is_kept: true,
+        })
+    }
+
+    // What inputs of these tests change: the clock, the number of indices, and that of the next hit.
+    fn counts(&self) -> (u64, u32, u64) {
+        let state = self.engine.state();
+        let world = state.world();
+        (
+            world.now(),
+            world.slot_count(),
+            state.events().next(Event::Hit),
+        )
+    }
+
+    // Puts an input in, once more where an allocation fails. The id that it gives.
+    fn put(&mut self, alloc: Global, input: &Input) -> Option<Option<Entity>> {
+        let before = self.counts();
+        if let Ok(id) = self.engine.input(alloc, input) {
+            return Some(id);
         }
-        Err(_) => None,
+        self.is_kept = self.is_kept && self.counts() == before;
+        self.engine.input(alloc, input).ok()
     }
-}
 
-// Puts an input in that gives no id.
-fn put_only(engine: &mut TestEngine, alloc: Global, input: &Input) -> Option<()> {
-    match put(engine, alloc, input)? {
-        None => Some(()),
-        Some(_) => None,
+    // Puts an input in that gives no id.
+    fn put_only(&mut self, alloc: Global, input: &Input) -> Option<()> {
+        match self.put(alloc, input)? {
+            None => Some(()),
+            Some(_) => None,
+        }
     }
-}
 
-// Spawns an entity with a health.
-fn spawn(engine: &mut TestEngine, alloc: Global) -> Option<Entity> {
-    let mut values: Vec<Value> = Vec::new(alloc);
-    values.push(NINE.into_value()).ok()?;
-    put(engine, alloc, &Input::Spawn(values))?
+    // Spawns an entity with a health.
+    fn spawn(&mut self, alloc: Global) -> Option<Entity> {
+        let mut values: Vec<Value> = Vec::new(alloc);
+        values.push(NINE.into_value()).ok()?;
+        self.put(alloc, &Input::Spawn(values))?
+    }
+
+    // The health of the second entity.
+    fn health(&self) -> Option<Health> {
+        self.engine.state().world().get::<Health>(SECOND)
+    }
 }
 
 /// Each input takes a tick, and is seen at once: a value, an event, an entity that comes, changes and goes, and an index that comes back.
 pub(crate) fn inputs(alloc: Global) -> Option<bool> {
-    let mut engine = moving(alloc, Clock::at(1))?;
-    put_only(&mut engine, alloc, &Input::SetResource(Res::Round, 4))?;
-    put_only(&mut engine, alloc, &Input::Emit(Event::Hit, 7))?;
-    let is_second = spawn(&mut engine, alloc)? == SECOND;
-    let is_there = engine.state().world().get::<Health>(SECOND) == Some(NINE);
-    put_only(&mut engine, alloc, &Input::Remove(SECOND, Kind::Health))?;
-    let is_gone = engine.state().world().get::<Health>(SECOND) == None;
-    put_only(&mut engine, alloc, &Input::Despawn(SECOND))?;
-    put_only(&mut engine, alloc, &Input::Despawn(SECOND))?;
-    let comes_back = spawn(&mut engine, alloc)? == THIRD;
-    let world = engine.state().world();
-    let is_seen = world.res(Res::Round) == 4 && engine.state().events().next(Event::Hit) == 1;
-    let is_counted = engine.state().passed_over() == 1 && world.now() == 8;
-    Some(is_second && is_there && is_gone && comes_back && is_seen && is_counted)
+    let mut host = Host::new(alloc)?;
+    host.put_only(alloc, &Input::SetResource(Res::Round, 4))?;
+    host.put_only(alloc, &Input::Emit(Event::Hit, 7))?;
+    let comes = host.spawn(alloc)? == SECOND && host.health() == Some(NINE);
+    host.put_only(alloc, &Input::Remove(SECOND, Kind::Health))?;
+    let loses = host.health() == None;
+    host.put_only(alloc, &Input::Despawn(SECOND))?;
+    host.put_only(alloc, &Input::Despawn(SECOND))?;
+    let comes_back = host.spawn(alloc)? == THIRD;
+    let state = host.engine.state();
+    let is_seen = state.world().res(Res::Round) == 4 && state.passed_over() == 1;
+    Some(host.is_kept && comes && loses && comes_back && is_seen && host.counts() == (8, 2, 1))
 }
 
 /// A run moves an entity from where an input put it.
 pub(crate) fn moved_from_input(alloc: Global) -> Option<bool> {
-    let mut engine = moving(alloc, Clock::at(1))?;
+    let mut host = Host::new(alloc)?;
     let place = Position { x: 5, y: 5 };
-    put_only(
-        &mut engine,
-        alloc,
-        &Input::Insert(FIRST, place.into_value()),
-    )?;
-    let has_run = Way::Plain.run(&mut engine, alloc, 1) == None;
-    Some(has_run && position(engine.state()) == Some(Position { x: 6, y: 3 }))
+    host.put_only(alloc, &Input::Insert(FIRST, place.into_value()))?;
+    let has_run = Way::Plain.run(&mut host.engine, alloc, 1) == None;
+    let is_moved = position(host.engine.state()) == Some(Position { x: 6, y: 3 });
+    Some(has_run && is_moved)
 }
 
-/// At the last tick an input is refused and leaves the engine as it was: a state from before goes on.
+/// At the last tick an input is refused, and leaves the engine as it was.
 pub(crate) fn refused_input(alloc: Global) -> Option<bool> {
     let mut engine = moving(alloc, Clock::at(LAST_TICK))?;
     let fault = engine.input(alloc, &Input::Despawn(FIRST)).err();
