@@ -96,8 +96,8 @@ fn has_spawners(built: &Built) -> bool
     false
 }
 
-// Whether no query of a system or condition has an `added` or `changed` term.
-fn is_unfiltered(built: &Built) -> bool
+/// Whether no query of a system or condition has an `added` or `changed` term.
+pub fn is_unfiltered(built: &Built) -> bool
     ensures { IsTrue result ↔ HasNoFilter built.now }
 {
     for system in 0..built.count() {

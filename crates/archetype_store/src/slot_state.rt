@@ -38,6 +38,13 @@ impl SlotState {
         self.generation
     }
 
+    /// The status.
+    pub fn status(&self) -> Status
+        ensures { status_of result ≡ self.now.status }
+    {
+        self.status
+    }
+
     /// Whether the entity of the index lives.
     pub fn is_living(&self) -> bool
         ensures { result ≡ is_living self.now.status }

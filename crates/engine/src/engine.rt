@@ -138,6 +138,13 @@ impl<B: Body> Engine<B> {
         run_engine(self, alloc, times, mode)
     }
 
+    /// The schedule.
+    pub fn schedule(&self) -> &Built
+        ensures { result.now ≡ self.now.schedule }
+    {
+        &self.built
+    }
+
     /// The state.
     pub fn state(&self) -> &State
         ensures { result.now ≡ self.now.state }

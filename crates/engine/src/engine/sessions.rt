@@ -46,7 +46,8 @@ impl<B: Body> Engine<B> {
         ensures ok { OnOk result (self.new ≡ mended_with state self.old) }
         ensures count { IsErrOf result SetFault.Count ↔ LacksMemories self.old.schedule state }
         ensures bodies { IsErrOf result SetFault.Bodies
-            → AreFit B.fits self.old.schedule self.old.bodies → ⊥ }
+            ↔ ((LacksMemories self.old.schedule state → ⊥)
+            × (AreFit B.fits self.old.schedule self.old.bodies → ⊥)) }
         ensures err { OnErr result (self.new ≡ self.old) }
     {
         if lacks_memories(&self.built, &state) {
@@ -64,9 +65,8 @@ impl<B: Body> Engine<B> {
         Ok(())
     }
 
-    /// Ends the engine, and gives its state.
+    /// Ends the engine, and gives its state. Of an engine that is spoiled nothing more is said of it.
     pub fn into_state(self) -> State
-        requires { self.spoiled ≡ false }
         ensures { result ≡ self.state }
     {
         let Engine {

@@ -10,6 +10,11 @@ returns-then-lacks_memories-clause-count g c =
     let lacks = subst (λ (s : Schedule). LacksMemories s c.args.state) (ap (λ (v : EngineValue g.row.B.Denot). v.schedule) c.self.view_is) c.if-lacks_memories.ensures in
     (λ e. lacks, λ e. refl)
 
+pub returns-then-lacks_memories-clause-bodies : goal.returns-then-lacks_memories-clause-bodies
+returns-then-lacks_memories-clause-bodies g c =
+    let lacks = subst (λ (s : Schedule). LacksMemories s c.args.state) (ap (λ (v : EngineValue g.row.B.Denot). v.schedule) c.self.view_is) c.if-lacks_memories.ensures in
+    (λ e. absurd (cc), λ h. absurd (h.0 lacks))
+
 pub invariant_of-self : goal.invariant_of-self
 invariant_of-self g c = λ _.
     let fit = subst (λ (v : EngineValue g.row.B.Denot). AreFit g.B.Body.fits v.schedule v.bodies) (sym c.self.view_is) c.if-not-has_bodies.ensures.fit in
