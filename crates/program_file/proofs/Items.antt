@@ -4,7 +4,7 @@ use Rattle.std.specs.Prelude.{Vec}
 use Rattle.std.specs.declared.alloc.Global.{Global}
 use Rattle.toml.specs.Data.{Members}
 use Rattle.program_file.specs.Keys.{HasItemNames, HasText}
-use Rattle.program_file.specs.Name.{IsName}
+use Rattle.tokens.specs.Name.{IsName}
 use Rattle.program_file.specs.Tables.{IsItemIn, IsItemTextsIn, IsItemRead}
 use Rattle.program_file.specs.declared.program_file.ItemTable.{ItemTable}
 use Rattle.program_file.specs.declared.program_file.ItemTexts.{ItemTexts}

@@ -7,7 +7,7 @@ use Rattle.std.specs.Map.{keys_of}
 use Rattle.toml.specs.View.{members_view}
 use Rattle.toml.proofs.Views.{Entry}
 use Rattle.program_file.specs.Keys.{HasOnly}
-use Rattle.program_file.specs.Name.{IsAmong}
+use Rattle.program_file.specs.Among.{IsAmong}
 
 -- the texts that are lent
 abbrev texts : List (Bor (List ℕ)) → List (List ℕ)

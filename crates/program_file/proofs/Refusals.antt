@@ -9,7 +9,7 @@ use Rattle.toml.specs.Data.{Data, Members, string, integer, array, table}
 use Rattle.toml.specs.View.{view, items_of}
 use Rattle.toml.specs.declared.value.Value.{Value as TomlValue}
 use Rattle.program_file.specs.Keys.{HasItems, HasTexts, HasNames, HasTable, HasTables, AreIntegers}
-use Rattle.program_file.specs.Name.{IsName}
+use Rattle.tokens.specs.Name.{IsName}
 use Rattle.program_file.specs.Readings.{AreSpelled}
 use Rattle.program_file.specs.PlaceFault.{NoneIs, NoneIsAt, fault_at, place_fault_of}
 use Rattle.program_file.specs.declared.place.Place.{Place}

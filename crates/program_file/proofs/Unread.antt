@@ -22,7 +22,7 @@ use Rattle.script.specs.Instruction.{IsInstruction}
 use Rattle.script.specs.declared.instruction.Instruction.{Instruction}
 use Rattle.script.specs.declared.script_body.Block.{Block}
 use Rattle.program_file.specs.Keys.{HasInteger, HasTables, HasTexts, HasItemNames, AreIntegers}
-use Rattle.program_file.specs.Name.{IsName}
+use Rattle.tokens.specs.Name.{IsName}
 use Rattle.program_file.specs.PlaceFault.{NoneIs, NoneIsAt}
 use Rattle.program_file.specs.Readings.{AreSpelled}
 use Rattle.program_file.specs.Tables.{AreValuesIn, IsComponentIn, IsEntityIn, AreConditionsIn, IsItemTextsIn, IsBlockIn, AreBlocksIn, IsBlockTextsIn, AreBlockTextsIn, IsCodeOf}

@@ -8,7 +8,7 @@ use Rattle.kinds.specs.declared.res.Event.{Event}
 use Rattle.kinds.specs.declared.value.Value.{Value as Component}
 use Rattle.script.specs.declared.script_body.Rounds.{Rounds}
 use Rattle.program_file.specs.Keys.{HasOnly, HasTable, HasTables, HasTexts, HasKey, HasResources, HasEvents, HasText, HasNumber}
-use Rattle.program_file.specs.Name.{IsName}
+use Rattle.tokens.specs.Name.{IsName}
 use Rattle.program_file.specs.Rounds.{SaysRounds, block_keys}
 use Rattle.program_file.specs.Tables.{keys_of_document, keys_of_set, keys_of_system, keys_of_block, AreValuesIn, IsEntityIn, IsItemIn, IsSetIn, IsSystemIn, IsChainIn}
 use Rattle.program_file.specs.declared.place.Place.{Place}

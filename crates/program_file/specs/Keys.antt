@@ -10,7 +10,7 @@ use Rattle.toml.specs.declared.value.Value.{Value}
 use Rattle.kinds.specs.declared.res.Res.{Res}
 use Rattle.kinds.specs.declared.res.Event.{Event}
 use Rattle.kinds.specs.Res.{res_name, event_name}
-use Rattle.program_file.specs.Name.{IsName}
+use Rattle.tokens.specs.Name.{IsName}
 
 -- each key is one of these
 abbrev pub HasOnly : List (List ℕ) → Members → Type 0

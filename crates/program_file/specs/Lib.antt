@@ -1,5 +1,5 @@
 pub mod PlaceFault
-pub mod Name
+pub mod Among
 pub mod Keys
 pub mod Readings
 pub mod FaultText

@@ -16,7 +16,7 @@ use Rattle.script.specs.Instruction.{IsInstruction}
 use Rattle.script.specs.declared.instruction.Instruction.{Instruction}
 use Rattle.script.specs.declared.script_body.Block.{Block}
 use Rattle.program_file.specs.Keys.{HasOnly, HasTable, HasTables, HasTexts, HasNames, HasItemNames, HasKey, HasResources, HasEvents, HasText, HasInteger, HasNumber, HasFlag, AreIntegers}
-use Rattle.program_file.specs.Name.{IsName}
+use Rattle.tokens.specs.Name.{IsName}
 use Rattle.program_file.specs.Readings.{AreSpelled}
 use Rattle.program_file.specs.Rounds.{SaysRounds, block_keys}
 use Rattle.program_file.specs.declared.program_file.BlockTexts.{BlockTexts}

@@ -7,15 +7,16 @@ ghost use Rattle.program_file.specs.Keys.{HasOnly, HasKey, HasItems, HasTable, H
 ghost use Rattle.program_file.specs.Rounds.{IsNumber};
 ghost use Rattle.parsing.specs.Reads.{Reads};
 ghost use Rattle.program_file.specs.PlaceFault.{IsNoText, NoneIs};
-ghost use Rattle.program_file.specs.Name.{IsName, IsAmong};
+ghost use Rattle.tokens.specs.Name.{IsName};
+ghost use Rattle.program_file.specs.Among.{IsAmong};
 ghost use Rattle.std.specs.List.{AllByRecursion};
 ghost use Rattle.kinds.specs.declared.res.Res.{Res as ResValue};
 ghost use Rattle.kinds.specs.declared.res.Event.{Event as EventValue};
 
-use crate::name::is_name;
 use crate::place_fault::PlaceFault;
 use kinds::{Event, Res};
 use std::alloc::Global;
+use tokens::name::is_name;
 use toml::{Table, Value};
 
 /// Refuses a table that has another key than these.

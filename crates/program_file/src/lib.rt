@@ -4,7 +4,6 @@
 mod document;
 mod fault;
 mod keys;
-mod name;
 mod place;
 mod place_fault;
 mod program_file;
@@ -13,6 +12,5 @@ mod rounds;
 
 pub use document::document_of;
 pub use fault::FileFault;
-pub use name::is_name;
 pub use place::Place;
 pub use program_file::{ChainTable, ItemTable, ProgramFile, SystemTable};

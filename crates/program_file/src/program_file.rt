@@ -3,7 +3,7 @@
 ghost use Rattle.std.specs.Prelude.{IfOk, IfErr, All, map, codes};
 ghost use Rattle.program_file.specs.PlaceFault.{IsNoText, IsNoValue, IsOfPlace, NoneIs};
 ghost use Rattle.program_file.specs.Faults.{HasBlockKeys, HasBlocks, HasChain, HasEntity, HasItem, HasItemKeys, HasSet, HasSetKeys, HasSystem, HasSystemKeys, HasTop, HasTouchedKeys, IsFaultOf, IsListFault, IsUnkeyed, IsWrong};
-ghost use Rattle.program_file.specs.Name.{IsName};
+ghost use Rattle.tokens.specs.Name.{IsName};
 ghost use Rattle.program_file.specs.Keys.{HasOnly, HasTable, HasTables, lent_members};
 ghost use Rattle.program_file.specs.Tables.{keys_of_document, AreValuesIn, AreResourcesIn, IsComponentIn, IsEntityIn, AreEntitiesIn, IsSystemIn, AreSetsIn, AreSystemsIn, AreChainsIn, IsItemIn, IsSetIn, IsChainIn, IsBlockTextsIn, AreBlockTextsIn, IsCodeOf, IsRead, IsItemTextsIn, IsItemRead, AreTouchedIn, IsSystemTextsIn, IsSystemRead, AreTextsOf};
 ghost use Rattle.program_file.specs.Readings.{AreSpelled};

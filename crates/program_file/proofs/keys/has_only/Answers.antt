@@ -2,7 +2,7 @@ use Rattle.std.proofs.Common.{String, Global, string_bytes, rules, tests}
 use Rattle.std.proofs.lemmas.Iterator.{cases_from_all}
 use Rattle.std.proofs.lemmas.Iterator.Consumers.{YieldsList-from_rest}
 use Rattle.std.specs.Map.{keys_of}
-use Rattle.program_file.specs.Name.{IsAmong}
+use Rattle.program_file.specs.Among.{IsAmong}
 use Rattle.program_file.proofs.Known.{has_only-from_cases}
 use Rattle.program_file.proofs.keys.has_only.Goals as goal
 

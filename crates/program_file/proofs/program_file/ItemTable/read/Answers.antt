@@ -6,7 +6,7 @@ use Rattle.run_condition.specs.declared.cond.Cond.{Cond}
 use Rattle.program_file.specs.PlaceFault.{IsNoValue, NoneIs}
 use Rattle.program_file.specs.Readings.{AreSpelled}
 use Rattle.program_file.specs.Faults.{HasItem, HasItemKeys, IsWrong}
-use Rattle.program_file.specs.Name.{IsName}
+use Rattle.tokens.specs.Name.{IsName}
 use Rattle.program_file.specs.Tables.{IsItemIn, IsItemRead}
 use Rattle.program_file.specs.declared.program_file.ItemTable.{ItemTable}
 use Rattle.program_file.proofs.Items.{item-read, texts-keys}

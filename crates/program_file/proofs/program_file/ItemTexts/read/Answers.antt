@@ -2,7 +2,7 @@ use Rattle.std.proofs.Common.{ℕ, List, codes}
 use Rattle.std.specs.List.{AllByRecursion}
 use Rattle.toml.specs.View.{table_view}
 use Rattle.program_file.specs.Keys.{HasTexts, HasText}
-use Rattle.program_file.specs.Name.{IsName}
+use Rattle.tokens.specs.Name.{IsName}
 use Rattle.program_file.specs.Faults.{HasItemKeys, IsUnkeyed}
 use Rattle.program_file.proofs.Wrong.{unkeyed, value-no_text}
 use Rattle.program_file.proofs.program_file.ItemTexts.read.Goals as goal

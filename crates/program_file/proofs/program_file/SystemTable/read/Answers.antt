@@ -1,7 +1,7 @@
 use Rattle.std.specs.Prelude.{All}
 use Rattle.toml.specs.View.{table_view}
 use Rattle.program_file.specs.Faults.{HasSystem, HasSystemKeys, IsWrong}
-use Rattle.program_file.specs.Name.{IsName}
+use Rattle.tokens.specs.Name.{IsName}
 use Rattle.program_file.specs.PlaceFault.{IsNoValue, NoneIs}
 use Rattle.program_file.specs.Tables.{AreTextsOf, IsSystemIn, IsSystemRead}
 use Rattle.program_file.specs.declared.program_file.SystemTable.{SystemTable}

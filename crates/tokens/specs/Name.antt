@@ -1,7 +1,6 @@
--- The names of items.
-use Rattle.std.specs.Prelude.{ℕ, ◌≤◌, ◌≡◌, ◌⊎◌, List, [], ◌∷◌, length, Any}
+-- Names.
+use Rattle.std.specs.Prelude.{ℕ, ◌≤◌, ◌≡◌, ◌⊎◌, List, [], ◌∷◌, length}
 use Rattle.std.specs.List.{AllByRecursion}
-use Rattle.std.specs.Borrow.{Bor}
 
 -- a to z
 abbrev pub IsLetter : ℕ → Type 0
@@ -19,7 +18,3 @@ BeginsWithLetter (b ∷ bs) = IsLetter b
 -- 1 to 32 characters of a to z, 0 to 9 and _, the first a letter
 abbrev pub IsName : List ℕ → Type 0
 IsName text = BeginsWithLetter text × AllByRecursion IsNameByte text × (length text ≤ 32)
-
--- a text is one of these
-abbrev pub IsAmong : List ℕ → List (Bor (List ℕ)) → Type 0
-IsAmong text known = Any (λ name. name.now ≡ text) known

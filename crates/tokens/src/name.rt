@@ -1,7 +1,7 @@
-// The names of items.
+// Names.
 
 ghost use Rattle.std.specs.Prelude.{IsTrue, ◌↔◌};
-ghost use Rattle.program_file.specs.Name.{IsName, IsLetter, IsNameByte};
+ghost use Rattle.tokens.specs.Name.{IsName, IsLetter, IsNameByte};
 
 const MOST_CHARACTERS: usize = 32;
 

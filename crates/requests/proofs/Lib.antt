@@ -1,0 +1,5 @@
+mod Ids
+mod FieldTexts
+mod ComponentTexts
+mod ArgumentTexts
+mod Lines

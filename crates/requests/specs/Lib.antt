@@ -1,0 +1,5 @@
+pub mod Asked
+pub mod Commands
+pub mod Grammar
+pub mod Parts
+pub mod Faults

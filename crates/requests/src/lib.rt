@@ -1,0 +1,14 @@
+// Requests: what a host asks for, read from a line.
+#![tactic(auto)]
+
+mod arguments;
+mod command;
+mod components;
+mod reading;
+mod request;
+#[cfg(test)]
+mod tests;
+mod words;
+
+pub use reading::read_request;
+pub use request::{Request, RequestFault};

@@ -1,0 +1,3 @@
+pub mod FirstWord
+pub mod LongNumber
+pub mod Name
