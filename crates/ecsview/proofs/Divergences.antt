@@ -1,6 +1,6 @@
 -- Where two records of a file part.
 use Rattle.std.proofs.Common.{◌≡◌, ℕ, List, length, Option, IfSome, subst, sym}
-use Rattle.findings.specs.Parting.{IsDifferenceOf, IsParting}
+use Rattle.findings.specs.Parting.{AreAllReplayed, IsDifferenceOf, IsParting}
 use Rattle.findings.specs.Refusals.{IsUnparted, IsUntold}
 use Rattle.findings.specs.Texts.{IsPartingText}
 use Rattle.findings.specs.declared.diverging.Parting.{Parting}
@@ -27,13 +27,16 @@ on_file l P bodies first second is_bodies is_first is_second h =
 -- what is told of the runs that were read
 pub diverge_of : (l : Loaded) (trace other : Option (List ℕ)) (runs others shown beside : List Recorded) (p : Parting) (place : Option Place) (status count beside_count : ℕ) (text : List ℕ)
     → IfSome trace (λ bytes. bytes ≡ trace_text runs) → IfSome other (λ bytes. bytes ≡ trace_text others) → shown ≡ runs → beside ≡ others
+    → AreAllReplayed l.built (meanings_of l) (first_of l) shown → AreAllReplayed l.built (meanings_of l) (first_of l) beside
     → IsParting l.built (meanings_of l) 0 (first_of l) (first_of l) shown beside p → IsDifferenceOf shown beside place → status ≡ parting_status p → count ≡ length shown → beside_count ≡ length beside
     → IsPartingText p place count beside_count text → IsDivergeText l trace other status text
-diverge_of l trace other runs others shown beside p place status count beside_count text read read_other is_shown is_beside parts differs counted is_count is_beside_count told = record {
+diverge_of l trace other runs others shown beside p place status count beside_count text read read_other is_shown is_beside replayed replayed_other parts differs counted is_count is_beside_count told = record {
   runs = shown;
   others = beside;
   read = subst (λ (rs : List Recorded). IfSome trace (λ bytes. bytes ≡ trace_text rs)) (sym is_shown) read;
   read_other = subst (λ (rs : List Recorded). IfSome other (λ bytes. bytes ≡ trace_text rs)) (sym is_beside) read_other;
+  replayed = replayed;
+  replayed_other = replayed_other;
   parting = p;
   parts = parts;
   place = place;

@@ -2,7 +2,7 @@
 use Rattle.std.specs.Prelude.{ℕ, ◌≡◌, List, [], ◌∷◌, ◌++◌, codes, decimal, length, map, Option, Some, None, IfSome}
 use Rattle.ambiguity_report.specs.Report.{IsReport}
 use Rattle.ambiguity_report.specs.declared.report.Pair.{Pair}
-use Rattle.findings.specs.Parting.{IsDifferenceOf, IsParting}
+use Rattle.findings.specs.Parting.{AreAllReplayed, IsDifferenceOf, IsParting}
 use Rattle.findings.specs.Stories.{IsStory, count_text}
 use Rattle.findings.specs.Texts.{IsPartingText, IsWitnessText, pair_text}
 use Rattle.findings.specs.Witness.{IsWitness}
@@ -62,12 +62,14 @@ parting_status (parting.Longer count) = 1
 parting_status (parting.After run world beside) = 1
 
 -- the text tells of the runs that two traces have after which of them the worlds differ first, where the runs of both begin with the state with which the
--- first run of the file begins, and the first step in which their lists differ; and the status is that of it
+-- first run of the file begins, and the first step in which their lists differ; and the status is that of it. All runs of both are replayed
 pub record IsDivergeText (l : Loaded) (trace other : Option (List ℕ)) (status : ℕ) (text : List ℕ) : Type 0 where
   pub runs : List Recorded
   pub others : List Recorded
   pub read : IfSome trace (λ bytes. bytes ≡ trace_text runs)
   pub read_other : IfSome other (λ bytes. bytes ≡ trace_text others)
+  pub replayed : AreAllReplayed l.built (meanings_of l) (first_of l) runs
+  pub replayed_other : AreAllReplayed l.built (meanings_of l) (first_of l) others
   pub parting : Parting
   pub parts : IsParting l.built (meanings_of l) 0 (first_of l) (first_of l) runs others parting
   pub place : Option Place

@@ -4,7 +4,7 @@ ghost use Rattle.std.specs.Prelude.{◌≡◌, ◌<◌, ◌^◌, ◌++◌, ◌�
 ghost use Rattle.ecsview.specs.Found.{AreRaces, IsDivergeText, IsFindingText, IsRacesText, IsStepsText, first_of, meanings_of, parting_status, races_line};
 ghost use Rattle.ecsview.specs.Refusals.{IsUncompared, IsUnshown};
 ghost use Rattle.engine.specs.Meanings.{HasMemories};
-ghost use Rattle.findings.specs.Parting.{IsParting};
+ghost use Rattle.findings.specs.Parting.{AreAllReplayed, IsParting};
 ghost use Rattle.findings.specs.Refusals.{IsUnparted, IsUnwitnessed};
 ghost use Rattle.model.specs.state.Loaded.{loaded as loaded_state};
 ghost use Rattle.program.specs.Load.{entity_given};
@@ -98,7 +98,7 @@ fn push_found(
     }
 }
 
-/// Where two traces part, and the status: 0 where the worlds agree and both have as many runs.
+/// Where two traces part, all runs of which are taken again, and the status: 0 where the worlds agree and both have as many runs.
 pub fn diverge_text<F: Read>(
     alloc: Global,
     loaded: Loaded<'_>,
@@ -144,6 +144,10 @@ fn parting_in(
     requires few { length one.now < 2 ^ 32 }
     ensures parting { IfOk result (IsParting loaded.entry.built (meanings_of loaded.entry) 0
         (first_of loaded.entry) (first_of loaded.entry) one.now two.now) }
+    ensures replayed { OnOk result (AreAllReplayed loaded.entry.built (meanings_of loaded.entry)
+        (first_of loaded.entry) one.now) }
+    ensures replayed_other { OnOk result (AreAllReplayed loaded.entry.built
+        (meanings_of loaded.entry) (first_of loaded.entry) two.now) }
     ensures refused { IfErr result (λ fault. IsUngiven (length loaded.entry.entities.items) fault
         ⊎ IsUnparted loaded.entry.built (meanings_of loaded.entry) (first_of loaded.entry)
         (first_of loaded.entry) one.now two.now fault) }

@@ -2,12 +2,12 @@
 
 ghost use Rattle.std.specs.Prelude.{◌≡◌, IfSome, string_bytes};
 ghost use Rattle.engine.specs.Meanings.{meanings};
-ghost use Rattle.printing.specs.WorldText.{world_text};
+ghost use Rattle.state_lines.specs.WorldText.{world_text};
 ghost use Rattle.example_body.specs.Printed.{IsPrinted};
 
 use body::Body;
 use engine::Engine;
-use printing::world::text_of_world;
+use state_lines::world::text_of_world;
 use std::alloc::Global;
 use std::sync::Wait;
 use std::thread;

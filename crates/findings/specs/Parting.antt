@@ -6,7 +6,8 @@ use Rattle.model.specs.runs.Replays.{IsReplayed}
 use Rattle.model.specs.shown.Outcome.{BodyMeaning}
 use Rattle.model.specs.state.State.{State}
 use Rattle.model.specs.steps.Schedule.{Schedule, Recorded, recording}
-use Rattle.printing.specs.WorldText.{world_text}
+use Rattle.state_lines.specs.WorldText.{world_text}
+use Rattle.program.specs.Replayed.{AreReplayed}
 use Rattle.findings.specs.declared.diverging.Parting.{Parting}
 use Rattle.findings.specs.declared.diverging.Parting.TheVariants as parting
 use Rattle.findings.specs.declared.diverging.Place.{Place}
@@ -31,6 +32,12 @@ IsParting s bodies count start beginning (r ∷ runs) (q ∷ others) p =
     (left : State) × (beside : State)
     × IsReplayed (recording s r.sets) bodies start r.steps left × IsReplayed (recording s q.sets) bodies beginning q.steps beside
     × (IsPartingAt (count + 1) left beside p ⊎ ((world_text (count + 1) left ≡ world_text (count + 1) beside) × IsParting s bodies (count + 1) left beside runs others p))
+
+-- ---- runs
+
+-- all of these runs are replayed, each from the state that the one before it leaves
+abbrev pub AreAllReplayed : Schedule → List BodyMeaning → State → List Recorded → Type 0
+AreAllReplayed s bodies start runs = (last : State) × AreReplayed s bodies start runs last
 
 -- ---- steps
 

@@ -6,14 +6,14 @@ use Rattle.model.specs.steps.Schedule.{Schedule, Recorded}
 use Rattle.program.specs.Loaded.{IsNotLoaded}
 use Rattle.program.specs.Refused.{IsUnread}
 use Rattle.program.specs.Replayed.{IsRefusedAmong, IsRefusedRun}
-use Rattle.program.specs.Said.{IsFileOf}
+use Rattle.program.specs.Said.{IsFileOf, IsShortFile}
 use Rattle.program.specs.declared.fault.Fault.{Fault}
 use Rattle.program.specs.declared.fault.Fault.TheVariants.{Memory}
 use Rattle.program_file.specs.declared.program_file.ProgramFile.{ProgramFile}
 
 -- a file is not accepted: it is not read, or what its tables declare is refused
 abbrev pub IsUnloaded : Option (List ℕ) → Fault → Type 0
-IsUnloaded bytes fault = IsUnread bytes fault ⊎ ((tables : ProgramFile) × IfSome bytes (IsFileOf tables) × IsNotLoaded tables fault)
+IsUnloaded bytes fault = IsUnread bytes fault ⊎ ((tables : ProgramFile) × IfSome bytes IsShortFile × IfSome bytes (IsFileOf tables) × IsNotLoaded tables fault)
 
 -- the first run of some that is not replayed, from the state that those before it leave, is refused so; or an allocation fails
 abbrev pub IsUntold : Schedule → List BodyMeaning → State → List Recorded → Fault → Type 0

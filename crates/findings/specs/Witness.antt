@@ -9,7 +9,7 @@ use Rattle.model.specs.runs.Replays.{IsReplayed}
 use Rattle.model.specs.shown.Outcome.{BodyMeaning}
 use Rattle.model.specs.state.State.{State}
 use Rattle.model.specs.steps.Schedule.{Schedule, Recorded, recording}
-use Rattle.printing.specs.WorldText.{world_text}
+use Rattle.state_lines.specs.WorldText.{world_text}
 use Rattle.findings.specs.declared.witness.RunOutcome.{RunOutcome}
 use Rattle.findings.specs.declared.witness.Witness.{Witness}
 

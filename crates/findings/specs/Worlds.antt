@@ -8,7 +8,7 @@ use Rattle.model.specs.runs.RunState.{RunState}
 use Rattle.model.specs.shown.Outcome.{BodyMeaning}
 use Rattle.model.specs.state.State.{State}
 use Rattle.model.specs.steps.Schedule.{Schedule}
-use Rattle.printing.specs.WorldText.{world_text}
+use Rattle.state_lines.specs.WorldText.{world_text}
 
 -- the line before a world, in the run behind so many: the numbers of the run and of the step, and the sync point
 abbrev pub head_text : ℕ → ℕ → ℕ → List ℕ

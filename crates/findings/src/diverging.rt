@@ -1,23 +1,23 @@
 // Where two traces of one file part: the first run after which the worlds that they leave differ, and the first step in which their lists do.
 
-ghost use Rattle.std.specs.Prelude.{◌≡◌, ◌≢◌, ◌<◌, ◌^◌, ◌⊎◌, true, false, length, map, slice_get, Some, IfErr, IfOk, string_bytes};
+ghost use Rattle.std.specs.Prelude.{◌≡◌, ◌≢◌, ◌+◌, ◌<◌, ◌≤◌, ◌^◌, true, false, length, map, slice_get, Some, None, IfErr, IfOk, IsSome, IsSomeAnd, MatchOption, OnOk, string_bytes};
 ghost use Rattle.engine.specs.Meanings.{HasMemories, Suits};
 ghost use Rattle.findings.specs.Apart.{IsFirstApart};
-ghost use Rattle.findings.specs.Parting.{IsDifferenceOf, IsParting, recorded_steps};
+ghost use Rattle.findings.specs.Parting.{AreAllReplayed, IsDifferenceOf, IsParting, IsPartingAt, recorded_steps};
 ghost use Rattle.findings.specs.Refusals.{IsUnparted};
 ghost use Rattle.model.specs.runs.Replays.{IsReplayed};
 ghost use Rattle.model.specs.steps.Schedule.{recording};
-ghost use Rattle.printing.specs.WorldText.{world_text};
+ghost use Rattle.state_lines.specs.WorldText.{world_text};
 ghost use Rattle.program.specs.Replayed.{IsRefusedRun};
 ghost use Rattle.program.specs.Setup.{AreScriptsOf, meanings_of_scripts, script_suits};
 
 use body::State;
 use executor_core::{Step, Trace};
-use printing::world::text_of_world;
 use program::Fault;
 use program::replaying::replay_run;
 use schedule_builder::Built;
 use script::ScriptBody;
+use state_lines::world::text_of_world;
 use std::alloc::Global;
 
 /// What two traces come to.
@@ -44,8 +44,8 @@ pub struct Place {
     pub other: Option<Step>,
 }
 
-/// Where two traces part, whose runs are taken again one after the other, each trace from a state of its own: the first run after which the texts of
-/// the worlds differ. Each run is replayed from the state that the run before it leaves.
+/// Where two traces part: the first run after which the texts of the worlds differ. All runs of both are taken again, each trace from a state of its own and
+/// each run from the state that the run before it leaves. Of each run number the first trace's run comes first; the first run that is refused ends it.
 pub fn parting_of(
     alloc: Global,
     built: &Built,
@@ -61,24 +61,82 @@ pub fn parting_of(
     requires few { length one.now < 2 ^ 32 }
     ensures parting { IfOk result (IsParting built.now (meanings_of_scripts built.now bodies.old) 0
         first second one.now other.now) }
+    ensures replayed { OnOk result (AreAllReplayed built.now
+        (meanings_of_scripts built.now bodies.old) first one.now) }
+    ensures replayed_other { OnOk result (AreAllReplayed built.now
+        (meanings_of_scripts built.now bodies.old) second other.now) }
     ensures refused { IfErr result (IsUnparted built.now (meanings_of_scripts built.now bodies.old)
         first second one.now other.now) }
 {
-    let mut states = (first, second);
-    let mut number = 0u32;
-    for trace in one {
-        let Some(counterpart) = other.get(number as usize) else {
-            return Ok(Parting::Longer(number as usize));
-        };
-        number += 1;
-        states = taken_both(alloc, built, bodies, states, trace, counterpart, number)?;
-        let text = text_of(alloc, number, &states.0)?;
-        let text_beside = text_of(alloc, number, &states.1)?;
-        if are_apart(text.as_str(), text_beside.as_str()) {
-            return Ok(Parting::After(number as usize, text, text_beside));
-        }
+    let both = one.len().min(other.len());
+    let (mut left, mut beside) = (first, second);
+    let mut told = None;
+    for run in 0..one.len().max(other.len()) {
+        left = taken(alloc, built, bodies, left, one, run)?;
+        beside = taken(alloc, built, bodies, beside, other, run)?;
+        told = told_behind(alloc, told, run, both, &left, &beside)?;
     }
-    Ok(ended(number, one.len(), other.len()))
+    Ok(told.unwrap_or(Parting::None(one.len())))
+}
+
+// Takes the run at a place again, where a trace has one.
+fn taken(
+    alloc: Global,
+    built: &Built,
+    bodies: &mut [ScriptBody],
+    state: State,
+    traces: &[Trace],
+    run: usize,
+) -> Result<State, Fault>
+    requires { Suits script_suits built.now (map Some bodies.old) state }
+    ensures refused { IfErr result (λ fault. IsSomeAnd (slice_get traces.now run) (λ trace.
+        IsRefusedRun built.now (meanings_of_scripts built.now bodies.old) state trace (run + 1)
+        fault)) }
+    ensures replayed { IfOk result (λ left. MatchOption (slice_get traces.now run) (left ≡ state)
+        (λ trace. IsReplayed (recording built.now trace.sets)
+        (meanings_of_scripts built.now bodies.old) state trace.steps left)) }
+    ensures suits { IfOk result (λ left. Suits script_suits built.now (map Some bodies.new) left) }
+    ensures meanings { meanings_of_scripts built.now bodies.new
+        ≡ meanings_of_scripts built.now bodies.old }
+{
+    match traces.get(run) {
+        Some(trace) => replay_run(alloc, built, bodies, state, trace, run + 1),
+        None => Ok(state),
+    }
+}
+
+// What two traces come to, as far as it is known behind a run, where both have so many: what was known before it, else that one of them has no such run,
+// else that the worlds differ.
+fn told_behind(
+    alloc: Global,
+    told: Option<Parting>,
+    run: usize,
+    both: usize,
+    left: &State,
+    beside: &State,
+) -> Result<Option<Parting>, Fault>
+    requires few { both < 2 ^ 32 }
+    ensures kept { IsSome told → IfOk result (λ now. now ≡ told) }
+    ensures longer { told ≡ None → both ≤ run
+        → IfOk result (λ now. now ≡ Some (Parting.Longer run)) }
+    ensures after { told ≡ None → run < both → IfOk result (λ now. MatchOption now
+        (world_text (run + 1) left.now ≡ world_text (run + 1) beside.now)
+        (IsPartingAt (run + 1) left.now beside.now)) }
+    ensures memory { IfErr result (λ fault. fault ≡ Fault.Memory) }
+{
+    if told.is_some() {
+        return Ok(told);
+    }
+    if run >= both {
+        return Ok(Some(Parting::Longer(run)));
+    }
+    let number = run + 1;
+    let text = text_of(alloc, number as u32, left)?;
+    let text_beside = text_of(alloc, number as u32, beside)?;
+    if are_apart(text.as_str(), text_beside.as_str()) {
+        return Ok(Some(Parting::After(number, text, text_beside)));
+    }
+    Ok(None)
 }
 
 // Whether two texts differ.
@@ -87,50 +145,6 @@ fn are_apart(one: &str, other: &str) -> bool
     ensures same { result ≡ false → one.now ≡ other.now }
 {
     one != other
-}
-
-// What two traces come to where all worlds behind so many runs are alike, which is all of the first trace.
-fn ended(number: u32, one: usize, other: usize) -> Parting
-    ensures longer { one < other → result ≡ Parting.Longer number }
-    ensures none { (one < other → ⊥) → result ≡ Parting.None number }
-{
-    if one < other {
-        Parting::Longer(number as usize)
-    } else {
-        Parting::None(number as usize)
-    }
-}
-
-// Takes a run of each trace again, each from its own state.
-fn taken_both(
-    alloc: Global,
-    built: &Built,
-    bodies: &mut [ScriptBody],
-    states: (State, State),
-    trace: &Trace,
-    counterpart: &Trace,
-    number: u32,
-) -> Result<(State, State), Fault>
-    requires suits { Suits script_suits built.now (map Some bodies.old) states.0 }
-    requires beside { HasMemories built.now states.1 }
-    ensures refused { IfErr result (λ fault. IsRefusedRun built.now
-        (meanings_of_scripts built.now bodies.old) states.0 trace.now number fault
-        ⊎ IsRefusedRun built.now (meanings_of_scripts built.now bodies.old) states.1
-        counterpart.now number fault) }
-    ensures one { IfOk result (λ left. IsReplayed (recording built.now trace.now.sets)
-        (meanings_of_scripts built.now bodies.old) states.0 trace.now.steps left.0) }
-    ensures other { IfOk result (λ left. IsReplayed (recording built.now counterpart.now.sets)
-        (meanings_of_scripts built.now bodies.old) states.1 counterpart.now.steps left.1) }
-    ensures suits { IfOk result (λ left. Suits script_suits built.now (map Some bodies.new)
-        left.0) }
-    ensures beside { IfOk result (λ left. HasMemories built.now left.1) }
-    ensures meanings { meanings_of_scripts built.now bodies.new
-        ≡ meanings_of_scripts built.now bodies.old }
-{
-    let (state, beside) = states;
-    let left = replay_run(alloc, built, bodies, state, trace, number as usize)?;
-    let left_beside = replay_run(alloc, built, bodies, beside, counterpart, number as usize)?;
-    Ok((left, left_beside))
 }
 
 // The text of a state after so many runs.

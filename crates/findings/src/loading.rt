@@ -6,6 +6,7 @@ ghost use Rattle.findings.specs.Refusals.{IsUnloaded};
 ghost use Rattle.model.specs.state.Loaded.{loaded as loaded_state};
 ghost use Rattle.program.specs.Load.{entity_given};
 ghost use Rattle.program.specs.Refused.{IsUngiven};
+ghost use Rattle.program.specs.Said.{IsShortFile};
 ghost use Rattle.toml.specs.Parse.{parse_document};
 ghost use Rattle.toml.specs.View.{table_view};
 
@@ -29,12 +30,14 @@ pub struct Loaded<'a> {
     pub sets: Sets<'a>,
 }
 
-/// What a document declares.
+/// What a document declares, whose text is no longer than a program file may be.
 pub fn load<'a>(alloc: Global, document: &'a Table) -> Result<Loaded<'a>, Fault>
     ensures loaded { IfOk result (λ found. (bytes : Option (List ℕ))
+        → IfSome bytes IsShortFile
         → IfSome bytes (λ text. parse_document text ≡ Some (table_view document.now))
         → IsLoaded bytes found) }
     ensures refused { IfErr result (λ fault. (bytes : Option (List ℕ))
+        → IfSome bytes IsShortFile
         → IfSome bytes (λ text. parse_document text ≡ Some (table_view document.now))
         → IsUnloaded bytes fault) }
 {

@@ -11,11 +11,11 @@ use crate::listing::{Turn, is_in_turn, list_of};
 use ambiguity_report::Pair;
 use body::State;
 use executor_core::{Step, Trace};
-use printing::world::text_of_world;
 use program::Fault;
 use program::replaying::replay_run;
 use schedule_builder::Built;
 use script::ScriptBody;
+use state_lines::world::text_of_world;
 use std::alloc::{AllocError, Global};
 
 /// A complete lawful list of the first run, with the text of the world that it leaves.

@@ -1,3 +1,2 @@
 pub mod CheckText
 pub mod ReportText
-pub mod WorldText

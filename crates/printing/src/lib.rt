@@ -1,6 +1,5 @@
-// What the program prints: the texts of a world, of an ambiguity report, and of what is said of traces.
+// What the program prints: the texts of an ambiguity report, and of what is said of traces.
 #![tactic(auto)]
 
 pub mod check;
 pub mod report;
-pub mod world;

@@ -40,7 +40,7 @@ use Rattle.program_file.specs.declared.fault.FileFault.{FileFault}
 use Rattle.program_file.specs.Keys.{HasOnly}
 use Rattle.program_file.specs.Tables.{keys_of_document, AreResourcesIn, AreEntitiesIn, AreSetsIn, AreSystemsIn, AreChainsIn, IsFileIn}
 use Rattle.toml.specs.Data.{Members}
-use Rattle.program.specs.Said.{IsFileOf, IsOfShortText, most_bytes, scripts_by}
+use Rattle.program.specs.Said.{IsFileOf, IsOfShortText, IsShortFile, most_bytes, scripts_by}
 use Rattle.program_file.specs.declared.fault.FileFault.TheVariants as file
 use Rattle.program_file.specs.Faults.{IsFaultOf}
 use Rattle.program_file.specs.PlaceFault.{IsOfBytes}
@@ -216,8 +216,9 @@ is-file (Some text) v tables read only resources entities sets systems chains = 
 }
 
 -- a file of whose tables this is loaded is accepted
-abbrev pub accepted : (bytes : Option (List ℕ)) (tables : ProgramFile) (l : Loaded) → IfSome bytes (IsFileOf tables) → IsLoadedOf tables l → Accepted bytes
-accepted bytes tables l read of = record {
+abbrev pub accepted : (bytes : Option (List ℕ)) (tables : ProgramFile) (l : Loaded) → IfSome bytes IsShortFile → IfSome bytes (IsFileOf tables) → IsLoadedOf tables l → Accepted bytes
+accepted bytes tables l within read of = record {
+  within = within;
   tables = tables;
   read = read;
   schedule = l.built;
@@ -228,11 +229,11 @@ accepted bytes tables l read of = record {
 -- ---- who refuses
 
 -- what the tables of a document, and its texts, are refused for: it is not read
-pub place-unread : (bytes : Option (List ℕ)) (v : Members) (fault : FileFault) → IfSome bytes (λ text. parse_document text ≡ Some v) → IsFaultOf v fault → IsUnread bytes (fault_of_file fault)
-place-unread bytes v file.Document read h = absurd h
-place-unread bytes v (file.Value place) read h = text-refused bytes v (file.Value place) read h (no-tables bytes v read (fault-none v (file.Value place) h))
-place-unread bytes v (file.Text place) read h = text-refused bytes v (file.Text place) read h (no-tables bytes v read (fault-none v (file.Text place) h))
-place-unread bytes v file.Memory read h = tt
+pub place-unread : (bytes : Option (List ℕ)) (v : Members) (fault : FileFault) → IfSome bytes IsShortFile → IfSome bytes (λ text. parse_document text ≡ Some v) → IsFaultOf v fault → IsUnread bytes (fault_of_file fault)
+place-unread bytes v file.Document within read h = absurd h
+place-unread bytes v (file.Value place) within read h = (within, text-refused bytes v (file.Value place) read h (no-tables bytes v read (fault-none v (file.Value place) h)))
+place-unread bytes v (file.Text place) within read h = (within, text-refused bytes v (file.Text place) read h (no-tables bytes v read (fault-none v (file.Text place) h)))
+place-unread bytes v file.Memory within read h = tt
 
 module _ (there : Bool) (width : ℕ) (bytes trace : Option (List ℕ)) where
   -- the reader of the file
@@ -244,15 +245,15 @@ module _ (there : Bool) (width : ℕ) (bytes trace : Option (List ℕ)) where
   unread-refused w fault h = absurd h
 
   -- the tables of a document, and its texts
-  pub place-refused : (w : Work) (v : Members) (fault : FileFault) → IfSome bytes (λ text. parse_document text ≡ Some v) → IsFaultOf v fault → IsRefusedBy there width bytes trace w (fault_of_file fault)
-  place-refused w v fault read h = unread-refused w (fault_of_file fault) (place-unread bytes v fault read h)
+  pub place-refused : (w : Work) (v : Members) (fault : FileFault) → IfSome bytes IsShortFile → IfSome bytes (λ text. parse_document text ≡ Some v) → IsFaultOf v fault → IsRefusedBy there width bytes trace w (fault_of_file fault)
+  place-refused w v fault within read h = unread-refused w (fault_of_file fault) (place-unread bytes v fault within read h)
 
   -- what the tables declare is refused
-  pub load-refused : (w : Work) (tables : ProgramFile) (fault : Fault) → IfSome bytes (IsFileOf tables) → IsNotLoaded tables fault → IsRefusedBy there width bytes trace w fault
-  load-refused w tables (Build fault) said h = (tables, said, h)
-  load-refused w tables (Script cause system block instruction) said h = (tables, said, h.0, h.1, h.2)
-  load-refused w tables Memory said h = tt
-  load-refused w tables fault said h = absurd h
+  pub load-refused : (w : Work) (tables : ProgramFile) (fault : Fault) → IfSome bytes IsShortFile → IfSome bytes (IsFileOf tables) → IsNotLoaded tables fault → IsRefusedBy there width bytes trace w fault
+  load-refused w tables (Build fault) within said h = (tables, within, said, h)
+  load-refused w tables (Script cause system block instruction) within said h = (tables, within, said, h.0, h.1, h.2)
+  load-refused w tables Memory within said h = tt
+  load-refused w tables fault within said h = absurd h
 
   module _ (file : Accepted bytes) where
     -- the reader of a trace
@@ -318,10 +319,14 @@ pub of-given : {T E : Type 0} (P Q : E → Type 0) (r : Result T E) → IsErrAnd
 of-given P Q (Ok x) h f = absurd h
 of-given P Q (Err e) h f = f e h
 
+-- what is known of the bytes that were read is known of all that the reader has
+pub known-read : (P : List ℕ → Type 0) (bytes : Option (List ℕ)) (text : List ℕ) → P text → IfSome bytes (λ all. text ≡ all) → IfSome bytes P
+known-read P None text known whole = tt
+known-read P (Some all) text known whole = subst P whole known
+
 -- the reader of a document
-pub document-unread : (bytes : Option (List ℕ)) (text : List ℕ) (fault : FileFault) → IfSome bytes (λ all. text ≡ all) → IsOfBytes fault → (fault ≡ file.Document → IsUtf8 text → parse_document text ≡ None) → IsUnread bytes (fault_of_file fault)
-document-unread None text file.Document whole only none = tt
-document-unread (Some all) text file.Document whole only none = subst (λ xs. IsUtf8 xs → parse_document xs ≡ None) whole (none refl)
-document-unread bytes text file.Memory whole only none = tt
-document-unread bytes text (file.Value place) whole only none = absurd only
-document-unread bytes text (file.Text place) whole only none = absurd only
+pub document-unread : (bytes : Option (List ℕ)) (text : List ℕ) (fault : FileFault) → IsShortFile text → IfSome bytes (λ all. text ≡ all) → IsOfBytes fault → (fault ≡ file.Document → IsUtf8 text → parse_document text ≡ None) → IsUnread bytes (fault_of_file fault)
+document-unread bytes text file.Document within whole only none = (known-read IsShortFile bytes text within whole, known-read (λ all. IsUtf8 all → parse_document all ≡ None) bytes text (none refl) whole)
+document-unread bytes text file.Memory within whole only none = tt
+document-unread bytes text (file.Value place) within whole only none = absurd only
+document-unread bytes text (file.Text place) within whole only none = absurd only

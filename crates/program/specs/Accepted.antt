@@ -6,11 +6,12 @@ use Rattle.model.specs.state.State.{State}
 use Rattle.model.specs.steps.Schedule.{Schedule}
 use Rattle.program_file.specs.declared.program_file.ProgramFile.{ProgramFile}
 use Rattle.program.specs.Load.{entity_given}
-use Rattle.program.specs.Said.{IsFileOf, declared_by, scripts_by}
+use Rattle.program.specs.Said.{IsFileOf, IsShortFile, declared_by, scripts_by}
 use Rattle.program.specs.Setup.{AreScriptsOf, IsScheduleOf, meanings_of_scripts}
 
--- its tables, the schedule that they declare, which the builder accepted, and for each system its script, which fits it
+-- it is no longer than a program file may be, and this is what it says: its tables, the schedule that they declare, which the builder accepted, and for each system its script, which fits it
 pub record Accepted (bytes : Option (List ℕ)) : Type 0 where
+  pub within : IfSome bytes IsShortFile
   pub tables : ProgramFile
   pub read : IfSome bytes (IsFileOf tables)
   pub schedule : Schedule

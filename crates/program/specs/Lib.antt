@@ -1,4 +1,5 @@
 pub mod Accepted
+pub mod Hosted
 pub mod Checked
 pub mod Fault
 pub mod LineReported

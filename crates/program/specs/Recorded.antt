@@ -9,7 +9,7 @@ use Rattle.model.specs.runs.WideRuns.{AreWideRuns}
 use Rattle.model.specs.steps.Schedule.{Schedule, Recorded}
 use Rattle.model.specs.state.State.{State}
 use Rattle.trace_checker.specs.Grammar.{trace_text}
-use Rattle.printing.specs.WorldText.{world_text}
+use Rattle.state_lines.specs.WorldText.{world_text}
 
 -- complete runs of a schedule with room for so many running systems, one after the other, lead from one state to another, and record kind sets.
 -- With room for one they are those of one thread

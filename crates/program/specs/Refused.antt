@@ -24,7 +24,7 @@ use Rattle.program.specs.declared.fault.Fault.{Fault}
 use Rattle.program.specs.declared.fault.Fault.TheVariants.{TooLong, Content, Build, Script, TraceTooLong, TraceLine, TraceOrder, TraceLists, ClockSpent, IdsSpent, BodyRefused, File, Write, Memory, NoWorker}
 use Rattle.program.specs.Recorded.{IsRecordTooLong}
 use Rattle.program.specs.Replayed.{IsRefusedReplay}
-use Rattle.program.specs.Said.{IsFileOf, declared_by, scripts_by}
+use Rattle.program.specs.Said.{IsFileOf, IsShortFile, IsShortTrace, declared_by, most_bytes, most_trace_bytes, scripts_by}
 use Rattle.program.specs.Setup.{IsScheduleOf, declared_names, fits_at}
 
 -- a text is a document, and it has no tables at all
@@ -42,10 +42,10 @@ IsFileRefused bytes (file.Value place) = IfSome bytes (IsTextRefused (file.Value
 IsFileRefused bytes (file.Text place) = IfSome bytes (IsTextRefused (file.Text place))
 IsFileRefused bytes file.Memory = ⊥
 
--- the reader of the file, or memory, stops
+-- the reader of the file, or memory, stops: a file that is too long is refused for that alone
 abbrev pub IsUnread : Option (List ℕ) → Fault → Type 0
-IsUnread bytes TooLong = IfSome bytes (λ text. 1048576 < length text)
-IsUnread bytes (Content fault) = IsFileRefused bytes fault
+IsUnread bytes TooLong = IfSome bytes (λ text. most_bytes < length text)
+IsUnread bytes (Content fault) = IfSome bytes IsShortFile × IsFileRefused bytes fault
 IsUnread bytes File = Unit {0}
 IsUnread bytes Memory = Unit {0}
 IsUnread bytes _ = ⊥
@@ -69,12 +69,12 @@ IsUngiven count IdsSpent = has_ids count [] ≡ false
 IsUngiven count Memory = Unit {0}
 IsUngiven count _ = ⊥
 
--- a trace is not read, for its text or for another cause
+-- a trace is not read, for its text or for another cause: one that is too long is refused for that alone
 abbrev pub IsTraceUnread : Option (List ℕ) → Fault → Type 0
-IsTraceUnread trace TraceTooLong = IfSome trace (λ text. 67108864 < length text)
-IsTraceUnread trace (TraceLine line) = IfSome trace (IsLineFault line)
-IsTraceUnread trace (TraceOrder line) = IfSome trace (IsOrderFault line)
-IsTraceUnread trace (TraceLists line) = IfSome trace (IsListsFault line)
+IsTraceUnread trace TraceTooLong = IfSome trace (λ text. most_trace_bytes < length text)
+IsTraceUnread trace (TraceLine line) = IfSome trace IsShortTrace × IfSome trace (IsLineFault line)
+IsTraceUnread trace (TraceOrder line) = IfSome trace IsShortTrace × IfSome trace (IsOrderFault line)
+IsTraceUnread trace (TraceLists line) = IfSome trace IsShortTrace × IfSome trace (IsListsFault line)
 IsTraceUnread trace File = Unit {0}
 IsTraceUnread trace Memory = Unit {0}
 IsTraceUnread trace _ = ⊥
@@ -134,11 +134,11 @@ IsStopped there width bytes trace work.Replay fault = IsReplayRefused bytes trac
 -- why some work, done with room for so many running systems, on workers or on none, on a file and a trace is refused: the file as bytes, the
 -- document, its tables and texts, the schedule that its tables declare, a script of theirs, the trace or the runs
 abbrev pub IsRefusedBy : Bool → ℕ → Option (List ℕ) → Option (List ℕ) → Work → Fault → Type 0
-IsRefusedBy there width bytes trace w TooLong = IfSome bytes (λ text. 1048576 < length text)
-IsRefusedBy there width bytes trace w (Content fault) = IsFileRefused bytes fault
-IsRefusedBy there width bytes trace w (Build fault) = (tables : ProgramFile) × IfSome bytes (IsFileOf tables) × IsAnswered (declared_by tables) fault
+IsRefusedBy there width bytes trace w TooLong = IfSome bytes (λ text. most_bytes < length text)
+IsRefusedBy there width bytes trace w (Content fault) = IfSome bytes IsShortFile × IsFileRefused bytes fault
+IsRefusedBy there width bytes trace w (Build fault) = (tables : ProgramFile) × IfSome bytes IsShortFile × IfSome bytes (IsFileOf tables) × IsAnswered (declared_by tables) fault
 IsRefusedBy there width bytes trace w (Script cause system block instruction) =
-    (tables : ProgramFile) × IfSome bytes (IsFileOf tables) × (s : Schedule) × IsScheduleOf (declared_by tables) s × IsUnscripted s (declared_names (declared_by tables)) (scripts_by tables) (Script cause system block instruction)
+    (tables : ProgramFile) × IfSome bytes IsShortFile × IfSome bytes (IsFileOf tables) × (s : Schedule) × IsScheduleOf (declared_by tables) s × IsUnscripted s (declared_names (declared_by tables)) (scripts_by tables) (Script cause system block instruction)
 IsRefusedBy there width bytes trace w TraceTooLong = IsTraceRefused bytes trace w TraceTooLong ⊎ IsStopped there width bytes trace w TraceTooLong
 IsRefusedBy there width bytes trace w (TraceLine line) = IsTraceRefused bytes trace w (TraceLine line)
 IsRefusedBy there width bytes trace w (TraceOrder line) = IsTraceRefused bytes trace w (TraceOrder line)

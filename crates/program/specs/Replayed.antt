@@ -8,7 +8,8 @@ use Rattle.trace_checker.specs.declared.replay.ReplayFault.TheVariants as replay
 use Rattle.trace_checker.specs.Grammar.{AreFitting, trace_text}
 use Rattle.model.specs.runs.Replays.{IsReplayed}
 use Rattle.trace_checker.specs.ReplayFaults.{IsReplayFault}
-use Rattle.printing.specs.WorldText.{world_text}
+use Rattle.state_lines.specs.WorldText.{world_text}
+use Rattle.program.specs.Said.{IsShortTrace}
 use Rattle.program.specs.declared.fault.Fault.{Fault}
 use Rattle.program.specs.declared.fault.Fault.TheVariants.{BadStep, UnfinishedRun, WrongAnswer, WrongSets, ClockSpent, IdsSpent, BodyRefused, Memory}
 
@@ -19,8 +20,9 @@ abbrev pub AreReplayed : Schedule → List BodyMeaning → State → List Record
 AreReplayed s bodies w [] w' = w ≡ w'
 AreReplayed s bodies w (r ∷ runs) w' = (middle : State) × IsReplayed (recording s r.sets) bodies w r.steps middle × AreReplayed s bodies middle runs w'
 
--- the text of the state that all runs of a trace leave, with their number
+-- the text of the state that all runs of a trace leave, which is no longer than one may be, with their number
 pub record IsTextOfReplay (s : Schedule) (bodies : List BodyMeaning) (start : State) (trace : Option (List ℕ)) (text : List ℕ) : Type 0 where
+  pub within : IfSome trace IsShortTrace
   pub runs : List Recorded
   pub fitting : AreFitting runs
   pub read : IfSome trace (λ bytes. bytes ≡ trace_text runs)
@@ -52,8 +54,9 @@ pub record IsRefusedAmong (s : Schedule) (bodies : List BodyMeaning) (start : St
   pub replayed : AreReplayed s bodies start before middle
   pub refused : IsRefusedRun s bodies middle run (length before + 1) fault
 
--- so it is with the runs of a trace
+-- so it is with the runs of a trace, which is no longer than one may be
 pub record IsRefusedReplay (s : Schedule) (bodies : List BodyMeaning) (start : State) (trace : Option (List ℕ)) (fault : Fault) : Type 0 where
+  pub within : IfSome trace IsShortTrace
   pub runs : List Recorded
   pub fitting : AreFitting runs
   pub read : IfSome trace (λ bytes. bytes ≡ trace_text runs)

@@ -73,10 +73,22 @@ scripts_by file = map (λ (t : SystemTable). script_said t.blocks) file.systems.
 abbrev pub most_bytes : ℕ
 most_bytes = 1048576
 
+-- a text is no longer than that
+abbrev pub IsShortFile : List ℕ → Type 0
+IsShortFile text = length text ≤ most_bytes
+
+-- the longest text of traces
+abbrev pub most_trace_bytes : ℕ
+most_trace_bytes = 67108864
+
+-- a text is no longer than that
+abbrev pub IsShortTrace : List ℕ → Type 0
+IsShortTrace text = length text ≤ most_trace_bytes
+
 -- some text, no longer than a program file may be, is this document
 pub record IsOfShortText (document : Members) : Type 0 where
   pub text : List ℕ
-  pub short : length text ≤ most_bytes
+  pub short : IsShortFile text
   pub parsed : parse_document text ≡ Some document
 
 -- a text is a document that has these tables, its resources, its entities, its sets, its systems and its chains, and no other key

@@ -1,11 +1,12 @@
 // What a schedule says of a trace that is read.
 
-ghost use Rattle.std.specs.Prelude.{◌≡◌, string_bytes, IfOk, IfErr, IfSome};
+ghost use Rattle.std.specs.Prelude.{◌≡◌, string_bytes, IfOk, IfErr, IfSome, OnOk};
 ghost use Rattle.std.specs.List.{list_all};
 ghost use Rattle.trace_checker.specs.Grammar.{AreFitting, trace_text};
 ghost use Rattle.trace_checker.specs.Verdicts.{is_complete};
 ghost use Rattle.program.specs.Checked.{IsCheckOf};
 ghost use Rattle.program.specs.Refused.{IsTraceUnread};
+ghost use Rattle.program.specs.Said.{IsShortTrace};
 
 use crate::answer::Answer;
 use crate::fault::Fault;
@@ -47,6 +48,7 @@ pub fn check_trace<T: Read>(alloc: Global, built: &Built, trace: &mut T) -> Resu
 /// The traces that a reader has, at most 67,108,864 bytes.
 pub fn traces_of<T: Read>(alloc: Global, trace: &mut T) -> Result<Vec<Trace>, Fault>
     ensures fitting { IfOk result (λ traces. AreFitting traces.items) }
+    ensures within { OnOk result (IfSome (T.remaining trace.old) IsShortTrace) }
     ensures read { IfOk result (λ traces. IfSome (T.remaining trace.old) (λ bytes. bytes
         ≡ trace_text traces.items)) }
     ensures refused { IfErr result (IsTraceUnread (T.remaining trace.old)) }

@@ -7,6 +7,7 @@ pub mod checking;
 pub mod created;
 pub mod fault;
 pub mod file;
+pub mod hosting;
 pub mod line_faults;
 pub mod loading;
 pub mod opened;

@@ -6,7 +6,7 @@ ghost use Rattle.engine.specs.Meanings.{meanings};
 ghost use Rattle.program.specs.Fault.{fault_text};
 ghost use Rattle.program.specs.Recorded.{HaveNoted, HaveRun, IsTextOfRuns};
 ghost use Rattle.program.specs.Refused.{IsRefusedBy, IsStoppedRun, IsUnread, IsUnrun};
-ghost use Rattle.program.specs.Said.{IsOfShortText};
+ghost use Rattle.program.specs.Said.{IsOfShortText, IsShortFile};
 ghost use Rattle.program.specs.Served.{HasGainedFront, IsAnswerTo, IsServed, IsTextOfReport, Tells, WritesRecord};
 ghost use Rattle.toml.specs.Parse.{parse_document};
 ghost use Rattle.toml.specs.View.{table_view};
@@ -18,6 +18,7 @@ use crate::answer::Answer;
 use crate::checking::check_trace;
 use crate::fault::Fault;
 use crate::file::bytes_of;
+use crate::hosting::begun;
 use crate::loading::{Loaded, load};
 use crate::recording::note_all;
 use crate::replaying::replay_trace;
@@ -25,14 +26,13 @@ use crate::world::world_of;
 use ambiguity_report::report::{is_settled, report};
 use archetype_store::World;
 use command_line::{Args, Work};
-use engine::first_state::first_state;
-use engine::{Engine, NewFault, RunFault};
+use engine::{Engine, RunFault};
 use executor_core::Trace;
 use printing::report::text_of_report;
-use printing::world::text_of_world;
 use program_file::{ProgramFile, document_of};
 use schedule_builder::Built;
 use script::ScriptBody;
+use state_lines::world::text_of_world;
 use std::alloc::{AllocError, Global};
 use std::io::{Read, Write};
 use streams::WriteFault;
@@ -114,10 +114,11 @@ fn answer<'s, M: Mode<'s>, F: Read, T: Read>(
     run(alloc, times, recorded, mode, built, bodies, world)
 }
 
-/// The document that a file is.
+/// The document that a file is, which has at most 1,048,576 bytes.
 pub fn document_in<F: Read>(alloc: Global, file: &mut F) -> Result<Table, Fault>
     ensures read { IfOk result (λ table. IfSome (F.remaining file.old) (λ text. parse_document text
         ≡ Some (table_view table))) }
+    ensures within { OnOk result (IfSome (F.remaining file.old) IsShortFile) }
     ensures short { IfOk result (λ table. IsOfShortText (table_view table)) }
     ensures refused { IfErr result (IsUnread (F.remaining file.old)) }
 {
@@ -161,13 +162,7 @@ fn run<'s, M: Mode<'s>>(
         (meanings_of_scripts built bodies.items) times (first_state built world.state)
         recorded) }
 {
-    let state = first_state(alloc, &built, world)?;
-    let mut engine = match Engine::new(alloc, built, bodies, state) {
-        Ok(engine) => engine,
-        Err(NewFault::Memory) => return Err(Fault::Memory),
-        Err(NewFault::Count) => unreachable!(),
-        Err(NewFault::Misfit(_)) => unreachable!(),
-    };
+    let mut engine = begun(alloc, built, bodies, world)?;
     let traces = run_times(alloc, &mut engine, times, recorded, mode)?;
     let state = engine.state();
     Ok(Answer {

@@ -13,4 +13,4 @@ pub returns-clause-text : goal.returns-clause-text
 returns-clause-text g c =
     diverge_of c.args.loaded (g.F.Read.remaining c.args.trace.now) (g.F.Read.remaining c.args.other.now) c.in_ok-one.one.items c.in_ok-two.two.items c.as_slice-runs.result.now c.as_slice-others.result.now c.in_ok-parting.parting
     c.first_difference-place.result c.status_of.result _ _ (string_bytes c.in_ok-text.text) c.in_ok-one.ensures.read c.in_ok-two.ensures.read c.as_slice-runs.ensures.value c.as_slice-others.ensures.value
-    c.in_ok-parting.ensures.parting c.first_difference-place.ensures c.status_of.ensures refl refl c.in_ok-text.ensures
+    c.in_ok-parting.ensures.replayed c.in_ok-parting.ensures.replayed_other c.in_ok-parting.ensures.parting c.first_difference-place.ensures c.status_of.ensures refl refl c.in_ok-text.ensures

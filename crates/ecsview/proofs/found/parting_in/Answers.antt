@@ -1,7 +1,7 @@
 use Rattle.std.proofs.Common.{List, inr, map, ap, subst, sym, ◌∙◌, length}
 use Rattle.std.specs.Prelude.{◌⊎◌, Vec}
 use Rattle.std.specs.declared.alloc.Global.{Global}
-use Rattle.findings.specs.Parting.{IsParting}
+use Rattle.findings.specs.Parting.{AreAllReplayed, IsParting}
 use Rattle.findings.specs.Refusals.{IsUnparted}
 use Rattle.kinds.specs.declared.value.Value.{Value}
 use Rattle.model.proofs.lists.Results.{handed_on}
@@ -28,6 +28,23 @@ returns-clause-parting c =
     let second = c.in_ok-second.ensures.first ∙ ap (λ (entities : List (Vec Value Global)). loaded l.built (map entity_given entities) l.resources) c.as_slice-2.ensures.value in
     on_file l (λ (meant : List BodyMeaning) (start beginning : State). IsParting l.built meant 0 start beginning c.args.one.now c.args.two.now c.in_ok-parting.parting) c.as_mut_slice-bodies.result.now _ _
     c.as_mut_slice-bodies.ensures.value first second c.in_ok-parting.ensures.parting
+
+-- all runs of both are replayed
+pub returns-clause-replayed : goal.returns-clause-replayed
+returns-clause-replayed c =
+    let l = c.args.loaded in
+    let first = c.in_ok-first.ensures.first ∙ ap (λ (entities : List (Vec Value Global)). loaded l.built (map entity_given entities) l.resources) c.as_slice.ensures.value in
+    let second = c.in_ok-second.ensures.first ∙ ap (λ (entities : List (Vec Value Global)). loaded l.built (map entity_given entities) l.resources) c.as_slice-2.ensures.value in
+    on_file l (λ (meant : List BodyMeaning) (start beginning : State). AreAllReplayed l.built meant start c.args.one.now) c.as_mut_slice-bodies.result.now _ _
+    c.as_mut_slice-bodies.ensures.value first second c.in_ok-parting.ensures.replayed
+
+pub returns-clause-replayed_other : goal.returns-clause-replayed_other
+returns-clause-replayed_other c =
+    let l = c.args.loaded in
+    let first = c.in_ok-first.ensures.first ∙ ap (λ (entities : List (Vec Value Global)). loaded l.built (map entity_given entities) l.resources) c.as_slice.ensures.value in
+    let second = c.in_ok-second.ensures.first ∙ ap (λ (entities : List (Vec Value Global)). loaded l.built (map entity_given entities) l.resources) c.as_slice-2.ensures.value in
+    on_file l (λ (meant : List BodyMeaning) (start beginning : State). AreAllReplayed l.built meant beginning c.args.two.now) c.as_mut_slice-bodies.result.now _ _
+    c.as_mut_slice-bodies.ensures.value first second c.in_ok-parting.ensures.replayed_other
 
 -- a run is refused
 pub returns-in_err-parting-clause-refused : goal.returns-in_err-parting-clause-refused

@@ -1,116 +1,91 @@
-use Rattle.std.proofs.Common.{◌≡◌, ◌+◌, ◌≤◌, List, Some, inl, inr, length, slice_get, refl, sym, subst, ◌∙◌, arith}
-use Rattle.std.proofs.lemmas.Option.{get_or_from_slice_get, slice_get_read, slice_get_within}
-use Rattle.model.specs.runs.Replays.{IsReplayed}
+use Rattle.std.proofs.Common.{◌≡◌, ◌<◌, ◌≤◌, ◌∙◌, List, length, slice_get, inl, inr, refl, sym, subst, le_trans, arith}
+use Rattle.std.proofs.Math.Nat.{le-max_left, le-max_right}
 use Rattle.model.specs.shown.Outcome.{BodyMeaning}
-use Rattle.model.specs.steps.Schedule.{recording}
-use Rattle.program.specs.Setup.{meanings_of_scripts}
-use Rattle.program.proofs.Replays.{refused-next, replayed-more}
-use Rattle.printing.specs.WorldText.{world_text}
 use Rattle.model.proofs.lists.Results.{handed_on}
+use Rattle.program.specs.Setup.{meanings_of_scripts}
+use Rattle.findings.specs.Parting.{IsParting}
 use Rattle.findings.specs.Refusals.{IsUnparted}
-use Rattle.findings.proofs.Fitting.{fitting_suit}
-use Rattle.findings.proofs.Partings.{parting_end, parting_next, parting_short}
+use Rattle.findings.proofs.Fitting.{fitting_suit, suits_beside}
+use Rattle.findings.proofs.Partings.{IsTaken, IsTold, refused-more, so-far-all, so-far-next, taken-all, taken-more}
 use Rattle.findings.proofs.diverging.parting_of.Goals as goal
 
 -- scripts that fit suit a state with the memories
-pub loop-trace-init : goal.loop-trace-init
-loop-trace-init c = record {
-  count = refl;
-  within = omega arith;
+pub loop-run-init : goal.loop-run-init
+loop-run-init c = record {
   suits = fitting_suit c.args.built.now c.args.bodies.now c.args.first c.requires.fitting c.requires.memories;
   beside = c.requires.beside;
   meant = refl;
   ran = refl;
   ran_beside = refl;
-  rest = λ p h. h;
+  told = (omega arith, omega arith, λ p h. h);
 }
 
--- the second trace has ended
-pub returns-in_default-clause-parting : goal.returns-in_default-clause-parting
-returns-in_default-clause-parting c =
-    let inv = c.loop-trace.invariant in
-    inv.rest _ (parting_short c.args.built.now (meanings_of_scripts c.args.built.now c.args.bodies.now) c.loop-trace.number c.loop-trace.states.0 c.loop-trace.states.1 c.args.one.now c.args.other.now
-    c.loop-trace.trace-index _ c.trace-item.result c.loop-trace-test.true c.trace-item.is (let over = c.in_default.ensures.lookup.3 in let e = inv.count in omega (arith, over, e)) refl)
-
--- the texts differ
-pub returns-then-are_apart-clause-parting : goal.returns-then-are_apart-clause-parting
-returns-then-are_apart-clause-parting c =
+-- a run of each is taken again
+pub loop-run-preserved : goal.loop-run-preserved
+loop-run-preserved c =
     let s = c.args.built.now in
     let ms = meanings_of_scripts s c.args.bodies.now in
-    let inv = c.loop-trace.invariant in
-    let ok = c.in_ok-states.ensures in
-    let r = c.trace-item.result in
-    let q = c.in-Some.counterpart.now in
-    let left = c.in_ok-states.states.0 in
-    let beside = c.in_ok-states.states.1 in
-    let look = c.in-Some.ensures.lookup in
-    let there : slice_get c.args.other.now c.loop-trace.trace-index ≡ Some q =
-    subst (λ n. slice_get c.args.other.now n ≡ Some q) inv.count (slice_get_read c.args.other.now (length c.args.other.now) c.loop-trace.number q refl look.3.0 (look.3.1 q)) in
-    inv.rest _ (parting_next s ms c.loop-trace.number c.loop-trace.states.0 c.loop-trace.states.1 c.args.one.now c.args.other.now c.loop-trace.trace-index _ left beside r q c.loop-trace-test.true c.trace-item.is there
-    (subst (λ (bs : List BodyMeaning). IsReplayed (recording s r.sets) bs c.loop-trace.states.0 r.steps left) inv.meant ok.one)
-    (subst (λ (bs : List BodyMeaning). IsReplayed (recording s q.sets) bs c.loop-trace.states.1 q.steps beside) inv.meant ok.other)
-    (inl (refl, c.in_ok-text.ensures.text, c.in_ok-text_beside.ensures.text, λ e. c.are_apart.ensures.apart c.if-are_apart.true (c.as_str.ensures.value ∙ c.in_ok-text.ensures.text ∙ e ∙ sym (c.as_str-in-loop-trace.ensures.value ∙ c.in_ok-text_beside.ensures.text)))))
-
--- the texts agree
-pub loop-trace-preserved : goal.loop-trace-preserved
-loop-trace-preserved c =
-    let s = c.args.built.now in
-    let ms = meanings_of_scripts s c.args.bodies.now in
-    let inv = c.loop-trace.invariant in
-    let ok = c.in_ok-states.ensures in
-    let r = c.trace-item.result in
-    let q = c.in-Some.counterpart.now in
-    let left = c.in_ok-states.states.0 in
-    let beside = c.in_ok-states.states.1 in
-    let look = c.in-Some.ensures.lookup in
-    let there : slice_get c.args.other.now c.loop-trace.trace-index ≡ Some q =
-    subst (λ n. slice_get c.args.other.now n ≡ Some q) inv.count (slice_get_read c.args.other.now (length c.args.other.now) c.loop-trace.number q refl look.3.0 (look.3.1 q)) in
-    let same : world_text (c.loop-trace.number + 1) left ≡ world_text (c.loop-trace.number + 1) beside = sym c.in_ok-text.ensures.text ∙ (sym c.as_str.ensures.value ∙ c.are_apart.ensures.same c.if-are_apart.false ∙ c.as_str-in-loop-trace.ensures.value) ∙ c.in_ok-text_beside.ensures.text in
+    let inv = c.loop-run.invariant in
+    let i = c.loop-run.run in
+    let one = c.in_ok-left.ensures in
+    let other = c.in_ok-beside.ensures in
+    let left = c.in_ok-left.left in
+    let beside = c.in_ok-beside.beside in
+    let then = c.taken.ensures.meanings ∙ inv.meant in
+    let told = subst (λ both. IsTold both i left beside c.loop-run.told c.in_ok-told.told) c.min-both.ensures (record {
+      kept = c.in_ok-told.ensures.kept;
+      longer = c.in_ok-told.ensures.longer;
+      after = c.in_ok-told.ensures.after;
+    }) in
     record {
-      count = let e = inv.count in omega (arith, e);
-      within = let more = slice_get_within c.args.other.now c.loop-trace.trace-index q there in omega (arith, more);
-      suits = ok.suits;
-      beside = ok.beside;
-      meant = ok.meanings ∙ inv.meant;
-      ran = replayed-more s ms (meanings_of_scripts s c.loop-trace.bodies) c.args.first c.loop-trace.states.0 left c.args.one.now c.loop-trace.trace-index r c.loop-trace-test.true c.trace-item.is inv.meant inv.ran ok.one;
-      ran_beside = replayed-more s ms (meanings_of_scripts s c.loop-trace.bodies) c.args.second c.loop-trace.states.1 beside c.args.other.now c.loop-trace.trace-index q (slice_get_within c.args.other.now c.loop-trace.trace-index q there)
-          (sym (get_or_from_slice_get c.args.other.now c.loop-trace.trace-index q q there)) inv.meant inv.ran_beside ok.other;
-      rest = λ p h. inv.rest p (parting_next s ms c.loop-trace.number c.loop-trace.states.0 c.loop-trace.states.1 c.args.one.now c.args.other.now c.loop-trace.trace-index p left beside r q c.loop-trace-test.true c.trace-item.is there
-          (subst (λ (bs : List BodyMeaning). IsReplayed (recording s r.sets) bs c.loop-trace.states.0 r.steps left) inv.meant ok.one)
-          (subst (λ (bs : List BodyMeaning). IsReplayed (recording s q.sets) bs c.loop-trace.states.1 q.steps beside) inv.meant ok.other)
-          (inr (same, h)));
+      suits = suits_beside s _ beside left other.suits one.suits.memories;
+      beside = other.suits.memories;
+      meant = c.taken-in-loop-run.ensures.meanings ∙ then;
+      ran = taken-more s ms _ c.args.first c.loop-run.left left c.args.one.now i inv.meant inv.ran one.replayed;
+      ran_beside = taken-more s ms _ c.args.second c.loop-run.beside beside c.args.other.now i then inv.ran_beside other.replayed;
+      told = so-far-next s ms c.args.first c.args.second c.args.one.now c.args.other.now i c.loop-run.left c.loop-run.beside left beside c.loop-run.told c.in_ok-told.told
+          (subst (λ n. i < n) c.max-run-end.ensures c.loop-run-test.true)
+          (subst (λ (bs : List BodyMeaning). IsTaken s bs c.loop-run.left (slice_get c.args.one.now i) left) inv.meant one.replayed)
+          (subst (λ (bs : List BodyMeaning). IsTaken s bs c.loop-run.beside (slice_get c.args.other.now i) beside) then other.replayed)
+          told inv.told;
     }
 
--- the first trace has ended
+-- all runs of both are taken
 pub returns-clause-parting : goal.returns-clause-parting
 returns-clause-parting c =
     let s = c.args.built.now in
     let ms = meanings_of_scripts s c.args.bodies.now in
-    let inv = c.loop-trace.invariant in
-    let i = c.loop-trace.trace-index in
-    let over : length c.args.one.now ≤ i = let f = c.loop-trace-test.false in omega (arith, f) in
-    let end = c.loop-trace.auto.trace-index-end in
-    inv.rest c.ended.result (parting_end s ms c.loop-trace.number c.loop-trace.states.0 c.loop-trace.states.1 c.args.one.now c.args.other.now i c.ended.result over
-    (λ more. c.ended.ensures.longer (omega (arith, over, more)))
-    (λ ended. c.ended.ensures.none (λ less. omega (arith, over, end, ended, less))))
+    subst (IsParting s ms 0 c.args.first c.args.second c.args.one.now c.args.other.now) (sym c.unwrap_or.ensures)
+    (so-far-all s ms c.args.first c.args.second c.args.one.now c.args.other.now c.loop-run.run c.loop-run.left c.loop-run.beside c.loop-run.told
+    (subst (λ n. n ≤ c.loop-run.run) c.max-run-end.ensures c.loop-run-test.false) c.loop-run.invariant.told)
 
--- a run of one of the traces is refused
-pub returns-in_err-states-clause-refused : goal.returns-in_err-states-clause-refused
-returns-in_err-states-clause-refused c =
+pub returns-clause-replayed : goal.returns-clause-replayed
+returns-clause-replayed c =
+    let s = c.args.built.now in
+    let all = subst (λ n. n ≤ c.loop-run.run) c.max-run-end.ensures c.loop-run-test.false in
+    taken-all s (meanings_of_scripts s c.args.bodies.now) c.args.first c.loop-run.left c.args.one.now c.loop-run.run (le_trans (le-max_left (length c.args.one.now) (length c.args.other.now)) all) c.loop-run.invariant.ran
+
+pub returns-clause-replayed_other : goal.returns-clause-replayed_other
+returns-clause-replayed_other c =
+    let s = c.args.built.now in
+    let all = subst (λ n. n ≤ c.loop-run.run) c.max-run-end.ensures c.loop-run-test.false in
+    taken-all s (meanings_of_scripts s c.args.bodies.now) c.args.second c.loop-run.beside c.args.other.now c.loop-run.run (le_trans (le-max_right (length c.args.one.now) (length c.args.other.now)) all) c.loop-run.invariant.ran_beside
+
+-- a run of one of them is refused
+pub returns-in_err-left-clause-refused : goal.returns-in_err-left-clause-refused
+returns-in_err-left-clause-refused c =
     let s = c.args.built.now in
     let ms = meanings_of_scripts s c.args.bodies.now in
-    let others = meanings_of_scripts s c.loop-trace.bodies in
-    let inv = c.loop-trace.invariant in
-    let i = c.loop-trace.trace-index in
-    let told = c.in_err-states.field-0.0 in
-    let q = c.in-Some.counterpart.now in
-    let look = c.in-Some.ensures.lookup in
-    let number : c.loop-trace.number + 1 ≡ i + 1 = let e = inv.count in omega (arith, e) in
-    let there : slice_get c.args.other.now i ≡ Some q =
-    subst (λ n. slice_get c.args.other.now n ≡ Some q) inv.count (slice_get_read c.args.other.now (length c.args.other.now) c.loop-trace.number q refl look.3.0 (look.3.1 q)) in
+    let inv = c.loop-run.invariant in
+    let told = c.in_err-left.field-0.0 in
     handed_on (IsUnparted s ms c.args.first c.args.second c.args.one.now c.args.other.now) c.from_residual.result told c.from_residual.ensures.1
-    (elim c.in_err-states.ensures.refused [
-      | inl refused ↦ inr (inl (refused-next s ms others c.args.first c.loop-trace.states.0 c.args.one.now i (c.loop-trace.number + 1) c.trace-item.result told c.loop-trace-test.true c.trace-item.is inv.meant number inv.ran refused))
-      | inr refused ↦ inr (inr (refused-next s ms others c.args.second c.loop-trace.states.1 c.args.other.now i (c.loop-trace.number + 1) q told (slice_get_within c.args.other.now i q there)
-          (sym (get_or_from_slice_get c.args.other.now i q q there)) inv.meant number inv.ran_beside refused))
-    ])
+    (inr (inl (refused-more s ms _ c.args.first c.loop-run.left c.args.one.now c.loop-run.run told inv.meant inv.ran c.in_err-left.ensures.refused)))
+
+pub returns-in_err-beside-clause-refused : goal.returns-in_err-beside-clause-refused
+returns-in_err-beside-clause-refused c =
+    let s = c.args.built.now in
+    let ms = meanings_of_scripts s c.args.bodies.now in
+    let inv = c.loop-run.invariant in
+    let told = c.in_err-beside.field-0.0 in
+    handed_on (IsUnparted s ms c.args.first c.args.second c.args.one.now c.args.other.now) c.from_residual-in_err-beside.result told c.from_residual-in_err-beside.ensures.1
+    (inr (inr (refused-more s ms _ c.args.second c.loop-run.beside c.args.other.now c.loop-run.run told (c.taken.ensures.meanings ∙ inv.meant) inv.ran_beside c.in_err-beside.ensures.refused)))

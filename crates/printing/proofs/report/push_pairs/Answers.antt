@@ -1,6 +1,6 @@
 use Rattle.std.proofs.Common.{ℕ, List, map, refl, string_bytes}
 use Rattle.printing.specs.ReportText.{pair_line}
-use Rattle.printing.proofs.Lines.{texts_next, texts_all}
+use Rattle.state_lines.proofs.Lines.{texts_next, texts_all}
 use Rattle.printing.proofs.report.push_pairs.Goals as goal
 
 pub loop-pair-preserved : goal.loop-pair-preserved

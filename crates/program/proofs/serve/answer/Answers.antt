@@ -43,7 +43,7 @@ returns-in-Ambiguities-clause-done g c =
     (λ answer h status. subst (λ (w : Work). IsAnswerTo width w file trace answer) (sym c.in-Ambiguities.is) (
       status,
       record {
-        file = accepted file c.in_ok-tables.tables l read is;
+        file = accepted file c.in_ok-tables.tables l c.in_ok-document.ensures.within read is;
         report = subst (λ ns. IsTextOfReport ns l.built (string_bytes answer.text)) (ap (map (λ name. name.now)) c.as_slice.ensures.value ∙ is.names) h;
       },
     )) c.report_of.ensures.report c.report_of.ensures.status
@@ -57,7 +57,7 @@ returns-in-Check-clause-done g c =
     let l = c.in_ok-built.field-0 in
     let read = is-file file _ c.in_ok-tables.tables c.in_ok-document.ensures.read of.keys of.resources of.entities of.sets of.systems of.chains in
     of-ok (λ answer. IsCheckOf l.built trace answer.status (string_bytes answer.text)) (λ answer. IsAnswerTo width c.args.work file trace answer) c.check_trace.result
-    (λ answer h. subst (λ (w : Work). IsAnswerTo width w file trace answer) (sym c.in-Check.is) (record { file = accepted file c.in_ok-tables.tables l read c.in_ok-built.ensures.loaded; check = h })) c.check_trace.ensures.done
+    (λ answer h. subst (λ (w : Work). IsAnswerTo width w file trace answer) (sym c.in-Check.is) (record { file = accepted file c.in_ok-tables.tables l c.in_ok-document.ensures.within read c.in_ok-built.ensures.loaded; check = h })) c.check_trace.ensures.done
 
 pub returns-in-Replay-clause-done : goal.returns-in-Replay-clause-done
 returns-in-Replay-clause-done g c =
@@ -73,7 +73,7 @@ returns-in-Replay-clause-done g c =
     (λ answer h status. subst (λ (w : Work). IsAnswerTo width w file trace answer) (sym c.in-Replay.is) (
       status,
       record {
-        file = accepted file c.in_ok-tables.tables l read is;
+        file = accepted file c.in_ok-tables.tables l c.in_ok-document.ensures.within read is;
         runs = replay-loaded c.in_ok-tables.tables l c.deref.result.now (λ (bodies : List BodyMeaning) (start : State) (count : ℕ). IsTextOfReplay l.built bodies start trace (string_bytes answer.text)) is c.deref.ensures.value h;
       },
     )) c.replay_trace.ensures.text c.replay_trace.ensures.status
@@ -97,7 +97,7 @@ returns-clause-done g c =
     (λ answer h status. subst (λ (w : Work). IsAnswerTo width w file trace answer) (sym c.in-Run.is) (
       status,
       record {
-        file = accepted file tables l read is;
+        file = accepted file tables l c.in_ok-document.ensures.within read is;
         runs = subst (λ (xs : List ScriptBody). IsTextOfRuns width l.built (meanings_of_scripts l.built xs) (loaded l.built (map entity_given tables.entities.items) tables.resources) times recorded (string_bytes answer.text) (string_bytes answer.traces)) is.scripts
             (runs-loaded width l.built l.bodies.items world (map entity_given tables.entities.items) tables.resources times recorded (string_bytes answer.text) (string_bytes answer.traces) same h);
       },
@@ -122,7 +122,7 @@ returns-in_err-tables-clause-refused g c =
     let trace = g.T.Read.remaining c.args.trace.now in
     let error = c.in_err-tables.field-0.0 in
     of-given (λ fault. fault ≡ fault_of_file error) (IsRefusedBy there width file trace c.args.work) c.from_residual-in_err-tables.result c.from_residual-in_err-tables.ensures.1
-    (λ fault is. subst (IsRefusedBy there width file trace c.args.work) (sym is) (place-refused there width file trace c.args.work _ error c.in_ok-document.ensures.read c.in_err-tables.ensures.fault))
+    (λ fault is. subst (IsRefusedBy there width file trace c.args.work) (sym is) (place-refused there width file trace c.args.work _ error c.in_ok-document.ensures.within c.in_ok-document.ensures.read c.in_err-tables.ensures.fault))
 
 pub returns-in_err-built-clause-refused : goal.returns-in_err-built-clause-refused
 returns-in_err-built-clause-refused g c =
@@ -134,7 +134,7 @@ returns-in_err-built-clause-refused g c =
     let error = c.in_err-built.field-0.0 in
     let read = is-file file _ c.in_ok-tables.tables c.in_ok-document.ensures.read of.keys of.resources of.entities of.sets of.systems of.chains in
     of-given (λ fault. fault ≡ error) (IsRefusedBy there width file trace c.args.work) c.from_residual-in_err-built.result c.from_residual-in_err-built.ensures.1
-    (λ fault is. subst (IsRefusedBy there width file trace c.args.work) (sym is) (load-refused there width file trace c.args.work c.in_ok-tables.tables error read c.in_err-built.ensures.refused))
+    (λ fault is. subst (IsRefusedBy there width file trace c.args.work) (sym is) (load-refused there width file trace c.args.work c.in_ok-tables.tables error c.in_ok-document.ensures.within read c.in_err-built.ensures.refused))
 
 pub returns-in-Ambiguities-clause-refused : goal.returns-in-Ambiguities-clause-refused
 returns-in-Ambiguities-clause-refused g c =
@@ -152,7 +152,7 @@ returns-in-Check-clause-refused g c =
     let trace = g.T.Read.remaining c.args.trace.now in
     let of = c.in_ok-tables.ensures in
     let read = is-file file _ c.in_ok-tables.tables c.in_ok-document.ensures.read of.keys of.resources of.entities of.sets of.systems of.chains in
-    let whole = accepted file c.in_ok-tables.tables c.in_ok-built.field-0 read c.in_ok-built.ensures.loaded in
+    let whole = accepted file c.in_ok-tables.tables c.in_ok-built.field-0 c.in_ok-document.ensures.within read c.in_ok-built.ensures.loaded in
     of-err (IsTraceUnread trace) (IsRefusedBy there width file trace c.args.work) c.check_trace.result
     (λ fault h. subst (λ (w : Work). IsRefusedBy there width file trace w fault) (sym c.in-Check.is) (trace-refused there width file trace whole Check fault tt h)) c.check_trace.ensures.refused
 
@@ -167,7 +167,7 @@ returns-in-Replay-clause-refused g c =
     let l = c.in_ok-built.field-0 in
     let is = c.in_ok-built.ensures.loaded in
     let read = is-file file _ tables c.in_ok-document.ensures.read of.keys of.resources of.entities of.sets of.systems of.chains in
-    let whole = accepted file tables l read is in
+    let whole = accepted file tables l c.in_ok-document.ensures.within read is in
     of-err (IsUnreplayed l.built (meanings_of_scripts l.built l.bodies.items) (loaded l.built (map entity_given c.deref.result.now) l.resources) (length c.deref.result.now) trace) (IsRefusedBy there width file trace c.args.work) c.replay_trace.result
     (λ fault h. subst (λ (w : Work). IsRefusedBy there width file trace w fault) (sym c.in-Replay.is) (unreplayed-refused there width file trace whole fault (enough _ tables.entities.items c.in_ok-document.ensures.short of.entities)
     (replay-loaded tables l c.deref.result.now (λ (bodies : List BodyMeaning) (start : State) (count : ℕ). IsUnreplayed l.built bodies start count trace fault) is c.deref.ensures.value h))) c.replay_trace.ensures.stopped
@@ -183,7 +183,7 @@ returns-in_err-world-clause-refused g c =
     let l = c.in_ok-built.field-0 in
     let is = c.in_ok-built.ensures.loaded in
     let read = is-file file _ tables c.in_ok-document.ensures.read of.keys of.resources of.entities of.sets of.systems of.chains in
-    let whole = accepted file tables l read is in
+    let whole = accepted file tables l c.in_ok-document.ensures.within read is in
     let error = c.in_err-world.field-0.0 in
     of-given (λ fault. fault ≡ error) (IsRefusedBy there width file trace c.args.work) c.from_residual-in_err-world.result c.from_residual-in_err-world.ensures.1
     (λ fault is-error. subst (IsRefusedBy there width file trace c.args.work) (sym is-error)
@@ -201,7 +201,7 @@ returns-clause-refused g c =
     let l = c.in_ok-built.field-0 in
     let is = c.in_ok-built.ensures.loaded in
     let read = is-file file _ tables c.in_ok-document.ensures.read of.keys of.resources of.entities of.sets of.systems of.chains in
-    let whole = accepted file tables l read is in
+    let whole = accepted file tables l c.in_ok-document.ensures.within read is in
     let times = c.in-Run.times in
     let recorded = c.in-Run.recorded in
     let world = c.in_ok-world.world.state in

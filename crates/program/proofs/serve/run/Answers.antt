@@ -7,7 +7,7 @@ use Rattle.engine.specs.FirstState.{first_state}
 use Rattle.engine.specs.Meanings.{meanings}
 use Rattle.model.specs.state.State.{State}
 use Rattle.script.specs.declared.script_body.ScriptBody.{ScriptBody}
-use Rattle.printing.specs.WorldText.{printed}
+use Rattle.state_lines.specs.WorldText.{printed}
 use Rattle.program.specs.Recorded.{HaveNoted}
 use Rattle.program.specs.Refused.{IsUnrun}
 use Rattle.program.specs.Setup.{meanings_of_scripts, script_means}
@@ -15,20 +15,6 @@ use Rattle.program.specs.declared.fault.Fault.{Fault}
 use Rattle.program.specs.declared.fault.Fault.TheVariants.{Memory}
 use Rattle.program.proofs.Serving.{no-misfit, of-given}
 use Rattle.program.proofs.serve.run.Goals as goal
-
--- there is a script and a memory for each system, and a memory for each condition
-pub unreachable-requires : goal.unreachable-requires
-unreachable-requires g c =
-    elim (c.in-Err-Count.ensures.count.0 (ap Err c.in-Err-Count.field-0-is)) [
-      | inl few ↦ few (length-map c.args.bodies.items (λ x. Some x) ∙ c.requires.scripts.count)
-      | inr lacks ↦ no_first_lacks c.args.built c.in_ok-state.state c.args.world.state c.in_ok-state.ensures lacks
-    ]
-
--- every script fits its system
-pub unreachable-requires-in-Err-Misfit : goal.unreachable-requires-in-Err-Misfit
-unreachable-requires-in-Err-Misfit g c =
-    no-misfit c.args.built c.args.bodies.items c.in_ok-state.state c.in-Err-Misfit.field-0-0 c.requires.scripts
-    ((c.in-Err-Misfit.ensures.misfit c.in-Err-Misfit.field-0-0).0 (ap Err c.in-Err-Misfit.field-0-is))
 
 -- the engine is not spoiled, and its mode may send what it sends
 pub run_times-requires : goal.run_times-requires
@@ -45,7 +31,7 @@ returns-clause-runs g c =
     let P = λ (v : EngineValue ScriptBody). HaveNoted width v.schedule (meanings script_means v.schedule v.bodies) v.state c.args.times c.args.recorded final noted in
     record {
       final = final;
-      runs = subst (λ (state : State). HaveNoted width s (meanings_of_scripts s c.args.bodies.items) state c.args.times c.args.recorded final noted) c.in_ok-state.ensures (subst P c.in-Ok.ensures.ok c.in_ok-traces.ensures.noted);
+      runs = subst P c.in_ok-engine.ensures.begun c.in_ok-traces.ensures.noted;
       same = c.in_ok-text_of_world.ensures
           ∙ ap₂ (printed c.args.times) (c.world.ensures.world ∙ ap (λ (state : State). state.world) c.state-state.ensures) (c.passed_over.ensures ∙ ap (λ (state : State). state.passed_over) c.state-state.ensures);
     }
@@ -58,7 +44,7 @@ returns-in_err-traces-clause-stopped g c =
     let s = c.args.built in
     let told = c.in_err-traces.field-0.0 in
     let P = λ (v : EngineValue ScriptBody). IsUnrun there width v.schedule (meanings script_means v.schedule v.bodies) c.args.times v.state c.args.recorded told in
-    let from = subst (λ (state : State). IsUnrun there width s (meanings_of_scripts s c.args.bodies.items) c.args.times state c.args.recorded told) c.in_ok-state.ensures (subst P c.in-Ok.ensures.ok c.in_err-traces.ensures.stopped) in
+    let from = subst P c.in_ok-engine.ensures.begun c.in_err-traces.ensures.stopped in
     of-given (λ (fault : Fault). fault ≡ told) (IsUnrun there width s (meanings_of_scripts s c.args.bodies.items) c.args.times (first_state s c.args.world.state) c.args.recorded) c.from_residual-in_err-traces.result c.from_residual-in_err-traces.ensures.1
     (λ e same. subst (IsUnrun there width s (meanings_of_scripts s c.args.bodies.items) c.args.times (first_state s c.args.world.state) c.args.recorded) (sym same) from)
 

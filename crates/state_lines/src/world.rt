@@ -5,7 +5,7 @@ ghost use Rattle.kinds.specs.Value.{value_number, value_words};
 ghost use Rattle.archetype_store.specs.Row.{component_of};
 ghost use Rattle.archetype_store.specs.Layout.{AreAllHome};
 ghost use Rattle.entity_table.specs.Ids.{slot_at};
-ghost use Rattle.printing.specs.WorldText.{words_text, component_text, row_text, entity_line, slot_line, slot_lines, resource_line, lines_of, count_line, printed};
+ghost use Rattle.state_lines.specs.WorldText.{words_text, component_text, row_text, entity_line, slot_line, slot_lines, resource_line, lines_of, count_line, printed, world_lines};
 
 use archetype_store::World;
 use column_store::{Components, StampedValue};
@@ -25,22 +25,37 @@ pub fn text_of_world(
 {
     let mut text = String::new(alloc);
     push_count(&mut text, "runs", u64::from(runs))?;
-    push_resources(&mut text, world, Res::ALL.as_slice())?;
-    push_entities(alloc, &mut text, world)?;
-    push_count(&mut text, "passed", passed_over)?;
+    push_world(alloc, &mut text, world, passed_over)?;
     Ok(text)
 }
 
-// Adds the line of a count.
-fn push_count(text: &mut String, name: &str, count: u64) -> Result<(), AllocError>
+/// Adds the lines of a world in which `passed_over` commands were passed over: each resource, each living entity in rising index, the count of
+/// commands passed over.
+pub fn push_world(
+    alloc: Global,
+    text: &mut String,
+    world: &World,
+    passed_over: u64,
+) -> Result<(), AllocError>
+    requires { AreAllHome world.now.layout }
+    ensures { OnOk result (string_bytes text.new
+        ≡ string_bytes text.old ++ world_lines world.now.state passed_over) }
+{
+    push_resources(text, world, Res::ALL.as_slice())?;
+    push_entities(alloc, text, world)?;
+    push_count(text, "passed", passed_over)
+}
+
+/// Adds the line of a count: its name and its number.
+pub fn push_count(text: &mut String, name: &str, count: u64) -> Result<(), AllocError>
     ensures { OnOk result (string_bytes text.new
         ≡ string_bytes text.old ++ count_line name.now count) }
 {
     writeln!(text, "{name} {count}")
 }
 
-// Adds the lines of these resources.
-fn push_resources(text: &mut String, world: &World, list: &[Res]) -> Result<(), AllocError>
+/// Adds the lines of these resources, in order.
+pub fn push_resources(text: &mut String, world: &World, list: &[Res]) -> Result<(), AllocError>
     ensures { OnOk result (string_bytes text.new
         ≡ string_bytes text.old ++ lines_of list.now world.now.state.resources) }
 {
@@ -87,8 +102,8 @@ fn push_slot(alloc: Global, text: &mut String, index: u32, world: &World) -> Res
     }
 }
 
-// Adds the line of an entity.
-fn push_entity(
+/// Adds the line of an entity: its id and its components.
+pub fn push_entity(
     text: &mut String,
     index: u32,
     generation: u32,
@@ -114,8 +129,8 @@ fn push_row(text: &mut String, components: &[StampedValue]) -> Result<(), AllocE
     Ok(())
 }
 
-// Adds a component.
-fn push_component(text: &mut String, value: &Value) -> Result<(), AllocError>
+/// Adds a component: the name of its kind and its words, a space before each.
+pub fn push_component(text: &mut String, value: &Value) -> Result<(), AllocError>
     ensures { OnOk result (string_bytes text.new
         ≡ string_bytes text.old
         ++ component_text (value_number value.now) (value_words value.now)) }

@@ -1,6 +1,6 @@
 use Rattle.std.proofs.Common.{◌≡◌, ◌++◌, take, string_bytes}
-use Rattle.printing.specs.WorldText.{lines_of}
-use Rattle.printing.proofs.world.push_resources.Given as goal
+use Rattle.state_lines.specs.WorldText.{lines_of}
+use Rattle.state_lines.proofs.world.push_resources.Given as goal
 
 -- the resources so far are written
 abbrev pub invariant-loop-res : goal.invariant-loop-res

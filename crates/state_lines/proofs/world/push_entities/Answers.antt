@@ -1,6 +1,6 @@
 use Rattle.std.proofs.Common.{◌<◌, length, add-one, zero-add, append_assoc, arith}
-use Rattle.printing.proofs.Lines.{slot_lines-take-suc}
-use Rattle.printing.proofs.world.push_entities.Goals as goal
+use Rattle.state_lines.proofs.Lines.{slot_lines-take-suc}
+use Rattle.state_lines.proofs.world.push_entities.Goals as goal
 
 -- the line of the index stands after those of the indices before it
 pub loop-index-preserved : goal.loop-index-preserved

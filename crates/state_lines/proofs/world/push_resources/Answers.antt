@@ -4,9 +4,9 @@ use Rattle.kinds.specs.declared.res.Res.{Res}
 use Rattle.kinds.specs.declared.res.Res.TheVariants.{Round}
 use Rattle.kinds.specs.Res.{res_number}
 use Rattle.model.specs.shown.Input.{value_of}
-use Rattle.printing.specs.WorldText.{resource_line}
-use Rattle.printing.proofs.Lines.{texts_next, texts_all}
-use Rattle.printing.proofs.world.push_resources.Goals as goal
+use Rattle.state_lines.specs.WorldText.{resource_line}
+use Rattle.state_lines.proofs.Lines.{texts_next, texts_all}
+use Rattle.state_lines.proofs.world.push_resources.Goals as goal
 
 pub loop-res-preserved : goal.loop-res-preserved
 loop-res-preserved c =

@@ -1,6 +1,6 @@
 use Rattle.std.proofs.Common.{◌≡◌, ◌++◌, take, string_bytes}
-use Rattle.printing.specs.WorldText.{words_text}
-use Rattle.printing.proofs.world.push_words.Given as goal
+use Rattle.state_lines.specs.WorldText.{words_text}
+use Rattle.state_lines.proofs.world.push_words.Given as goal
 
 -- the words so far are written
 abbrev pub invariant-loop-word : goal.invariant-loop-word

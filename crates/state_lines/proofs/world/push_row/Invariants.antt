@@ -1,7 +1,7 @@
 use Rattle.std.proofs.Common.{◌≡◌, ◌++◌, map, take, string_bytes}
 use Rattle.archetype_store.specs.Row.{component_of}
-use Rattle.printing.specs.WorldText.{row_text}
-use Rattle.printing.proofs.world.push_row.Given as goal
+use Rattle.state_lines.specs.WorldText.{row_text}
+use Rattle.state_lines.proofs.world.push_row.Given as goal
 
 -- the components so far are written
 abbrev pub invariant-loop-component : goal.invariant-loop-component

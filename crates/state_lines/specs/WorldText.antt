@@ -44,10 +44,13 @@ lines_of list resources = flat_map (λ res. resource_line res (value_of resource
 abbrev pub count_line : List ℕ → ℕ → List ℕ
 count_line name count = name ++ (32 ∷ decimal count) ++ 10 ∷ []
 
+-- the lines of a world in which so many commands were passed over: its resources, its entities, that count
+abbrev pub world_lines : World → ℕ → List ℕ
+world_lines world passed_over = lines_of every_res world.resources ++ slot_lines 0 world.slots ++ count_line (codes "passed") passed_over
+
 -- the text of a world after so many runs, in which so many commands were passed over
 abbrev pub printed : ℕ → World → ℕ → List ℕ
-printed runs world passed_over =
-    count_line (codes "runs") runs ++ lines_of every_res world.resources ++ slot_lines 0 world.slots ++ count_line (codes "passed") passed_over
+printed runs world passed_over = count_line (codes "runs") runs ++ world_lines world passed_over
 
 -- the text of a state after so many runs
 abbrev pub world_text : ℕ → State → List ℕ

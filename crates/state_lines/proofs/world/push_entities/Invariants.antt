@@ -1,6 +1,6 @@
 use Rattle.std.proofs.Common.{◌≡◌, ◌++◌, take, string_bytes}
-use Rattle.printing.specs.WorldText.{slot_lines}
-use Rattle.printing.proofs.world.push_entities.Given as goal
+use Rattle.state_lines.specs.WorldText.{slot_lines}
+use Rattle.state_lines.proofs.world.push_entities.Given as goal
 
 -- the entities of the indices so far are written
 abbrev pub invariant-loop-index : goal.invariant-loop-index

@@ -1,7 +1,7 @@
 use Rattle.std.proofs.Common.{◌∷◌, ℤ, refl, string_bytes}
 use Rattle.std.specs.Fmt.{signed_decimal}
-use Rattle.printing.proofs.Lines.{texts_next, texts_all}
-use Rattle.printing.proofs.world.push_words.Goals as goal
+use Rattle.state_lines.proofs.Lines.{texts_next, texts_all}
+use Rattle.state_lines.proofs.world.push_words.Goals as goal
 
 pub loop-word-preserved : goal.loop-word-preserved
 loop-word-preserved c =

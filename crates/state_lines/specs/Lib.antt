@@ -1,0 +1,3 @@
+pub mod WorldText
+pub mod Looks
+pub mod Fetched
