@@ -1,0 +1,9 @@
+use Rattle.session.specs.Plays.{HavePlayed}
+use Rattle.session.proofs.play.play.Given as goal
+
+-- the lines so far were replied
+abbrev pub invariant-loop : goal.invariant-loop
+invariant-loop g l =
+    HavePlayed g.B.Body.meaning (g.M.SpawnThreads.has_scope l.mode) (g.M.Mode.width l.mode) l.fn.session l.session
+    (record { input = g.R.Read.remaining l.fn.requests; output = g.O.Write.contents l.fn.out })
+    (record { input = g.R.Read.remaining l.requests; output = g.O.Write.contents l.out })

@@ -1,0 +1,23 @@
+use Rattle.std.proofs.Common.{sym, ap, ◌∙◌, subst}
+use Rattle.std.specs.Prelude.{IfErr}
+use Rattle.engine.specs.Meanings.{AreFit, meanings}
+use Rattle.model.specs.steps.Schedule.{Schedule}
+use Rattle.engine.specs.declared.faults.RunFault.TheVariants.{NoWorker}
+use Rattle.engine.specs.Stops.{StopsAs}
+use Rattle.session.specs.Live.{Live}
+use Rattle.session.proofs.Lives.{fitting, ok_err}
+use Rattle.session.proofs.session.Session.run.Goals as goal
+
+pub invariant_of-self : goal.invariant_of-self
+invariant_of-self g c =
+    fitting g.B.Body.fits c.self.inside.engine c.run.new.self c.self.inside.marks c.run.ensures.schedule
+    (subst (λ (s : Schedule). AreFit g.B.Body.fits s c.run.new.self.bodies) (sym c.run.ensures.schedule) (c.run.ensures.fit (λ e. absurd (ok_err c.run.result c.in-Ok._traces NoWorker c.in-Ok.is e)) (ap (λ (l : Live g.row.B.Denot). l.engine.spoiled) c.self.view_is ∙ c.requires))) c.self.invariant
+
+pub invariant_of-self-2 : goal.invariant_of-self-2
+invariant_of-self-2 g c =
+    let scope = g.M.SpawnThreads.has_scope c.keeping.result in
+    let bodies = meanings g.B.Body.meaning c.self.inside.engine.schedule c.self.inside.engine.bodies in
+    let stops = StopsAs scope (g.M.Mode.width c.keeping.result) c.self.inside.engine.schedule bodies c.args.times c.self.inside.engine.state in
+    fitting g.B.Body.fits c.self.inside.engine c.run.new.self c.self.inside.marks c.run.ensures.schedule
+    (subst (λ (s : Schedule). AreFit g.B.Body.fits s c.run.new.self.bodies) (sym c.run.ensures.schedule)
+    (c.run.ensures.fit (λ e. c.keeping.ensures.stands ∙ subst (λ r. IfErr r stops) e c.run.ensures.stopped) (ap (λ (l : Live g.row.B.Denot). l.engine.spoiled) c.self.view_is ∙ c.requires))) c.self.invariant
