@@ -1,10 +1,11 @@
-/* Refuses one allocation of a process: the one that REFUSE_AT numbers, counted from 1. Where it does, it creates the file that
-   REFUSE_NOTE names. How many allocations were asked for stands in the file that REFUSE_COUNT names, as a number of the processor:
-   programs end without the C library's last steps. Loaded in front of the C library by .ci/allocations. */
+/* Refuses one allocation of a process, the one that REFUSE_AT numbers, or one start of a thread, the one that REFUSE_THREAD numbers,
+   each counted from 1. Where it does, it creates the file that REFUSE_NOTE names. How many allocations were asked for stands in the file that REFUSE_COUNT names, as a number of the processor:
+   programs end without the C library's last steps. Loaded in front of the C library by .ci/allocations and .ci/plays. */
 #define _GNU_SOURCE
 #include <dlfcn.h>
 #include <errno.h>
 #include <fcntl.h>
+#include <pthread.h>
 #include <stdatomic.h>
 #include <stddef.h>
 #include <stdlib.h>
@@ -26,20 +27,40 @@ static atomic_long *calls(void) {
     return calls;
 }
 
-static int is_refused(void) {
-    static atomic_long at = -1;
-    long wanted = atomic_load(&at);
-    if (wanted < 0) {
-        const char *text = getenv("REFUSE_AT");
-        wanted = text ? atol(text) : 0;
-        atomic_store(&at, wanted);
+/* The number that a variable has, 0 where it has none, read once. */
+static long wanted(const char *name, atomic_long *kept) {
+    long number = atomic_load(kept);
+    if (number < 0) {
+        const char *text = getenv(name);
+        number = text ? atol(text) : 0;
+        atomic_store(kept, number);
     }
-    if (atomic_fetch_add(calls(), 1) + 1 != wanted) return 0;
+    return number;
+}
+
+/* Tells that something was refused. */
+static void leave_note(void) {
     const char *note = getenv("REFUSE_NOTE");
     int file = note ? open(note, O_CREAT | O_WRONLY, 0600) : -1;
     if (file >= 0) close(file);
+}
+
+static int is_refused(void) {
+    static atomic_long at = -1;
+    if (atomic_fetch_add(calls(), 1) + 1 != wanted("REFUSE_AT", &at)) return 0;
+    leave_note();
     errno = ENOMEM;
     return 1;
+}
+
+int pthread_create(pthread_t *thread, const pthread_attr_t *attributes, void *(*start)(void *), void *argument) {
+    static atomic_long at = -1, started;
+    if (atomic_fetch_add(&started, 1) + 1 == wanted("REFUSE_THREAD", &at)) {
+        leave_note();
+        return EAGAIN;
+    }
+    int (*create)(pthread_t *, const pthread_attr_t *, void *(*)(void *), void *) = dlsym(RTLD_NEXT, "pthread_create");
+    return create(thread, attributes, start, argument);
 }
 
 extern void *__libc_malloc(size_t);
