@@ -8,7 +8,7 @@ use Rattle.model.specs.shown.Outcome.{Outcome, IsWithin, untouched}
 use Rattle.body.specs.Keeps.{KeepsWithin}
 use Rattle.body.specs.Seen.{Seen, with_resource}
 use Rattle.body.proofs.Keeps.{IsWithin-untouched, IsWithin-with_resource, IsWithin-with_register, keeps_ok, keeps_untouched, keeps_refusing}
-use Rattle.calls.specs.Bodies.{total, read_over, answered, tallied, refused_at_one}
+use Rattle.calls.specs.Bodies.{round, total, read_over, answered, tallied, refused_at_one}
 
 -- a view with this outcome
 abbrev view_of : Params → Shown → Outcome → Seen
@@ -25,7 +25,7 @@ answered_keeps params (Some number) = keeps_refusing params number
 
 pub refused_keeps : (params : Params) → KeepsWithin params (refused_at_one params)
 unfolding KeepsWithin
-refused_keeps params seen o can e = go (int_eq (read_over params seen (untouched params seen).res_mut total) (pos 1)) e
+refused_keeps params seen o can e = go (int_eq (read_over params seen (untouched params seen).res_mut round) (pos 1)) e
   where
     go : (b : Bool) → cond {A = Result Outcome ℕ} b (Err 7) (Ok (untouched params seen)) ≡ Ok o → IsWithin widths params seen o
     go true h = absurd (cc)

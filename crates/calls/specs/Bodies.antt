@@ -9,9 +9,12 @@ use Rattle.model.specs.shown.Input.{Shown}
 use Rattle.model.specs.shown.Outcome.{Outcome, untouched}
 use Rattle.body.specs.Seen.{value_read, with_value}
 use Rattle.kinds.specs.Res.{res_number}
-use Rattle.kinds.specs.declared.res.Res.TheVariants.{Total, Step}
+use Rattle.kinds.specs.declared.res.Res.TheVariants.{Round, Total, Step}
 
--- what is added to, and what is added
+-- of what one refuses, what is added to, and what is added
+abbrev pub round : ℕ
+round = res_number Round
+
 abbrev pub total : ℕ
 total = res_number Total
 
@@ -40,16 +43,16 @@ abbrev pub answered : Option ℕ → Params → Shown → Result Outcome ℕ
 answered None params shown = Ok (untouched params shown)
 answered (Some number) params shown = Err number
 
--- the answer of one that refuses with 7 where the total is 1
+-- the answer of one that refuses with 7 where the round is 1
 abbrev pub refused_at_one : Params → Shown → Result Outcome ℕ
-refused_at_one params shown = cond (int_eq (read_over params shown (untouched params shown).res_mut total) (pos 1)) (Err 7) (Ok (untouched params shown))
+refused_at_one params shown = cond (int_eq (read_over params shown (untouched params shown).res_mut round) (pos 1)) (Err 7) (Ok (untouched params shown))
 
 -- the parameters that they fit
 abbrev pub may_always : Params → Bool
 may_always params = true
 
 abbrev pub may_refuse : Params → Bool
-may_refuse params = names_resource params total
+may_refuse params = names_resource params round
 
 abbrev pub may_tally : Params → Bool
 may_tally params = has total params.res_mut && names_resource params step

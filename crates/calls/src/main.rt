@@ -8,17 +8,20 @@ ghost use Rattle.std.specs.Prelude.{};
 mod tests;
 
 use crate::tests::again;
-use crate::tests::board::{one_slot, two_hands};
+use crate::tests::board::{one_slot, two_hands, waits};
 use crate::tests::commands::kept_again;
 use crate::tests::inputs::{inputs, mended, moved_from_input, refused_input};
+use crate::tests::levels::levels;
 use crate::tests::moving::{
     boxed, boxed_on_threads, kept_at_the_last_tick, kept_state, refused_engines, spent_clock,
     stamps,
 };
+use crate::tests::plans::two_plans;
 use crate::tests::random::random_worlds;
-use crate::tests::resources::{kept_total, three_tallies};
-use crate::tests::store::{buffers, entities, steps, texts, unions};
-use crate::tests::threads::{judged, refuse, refuse_on_threads};
+use crate::tests::resources::{kept_round, three_tallies};
+use crate::tests::rows::{Row, kept as kept_row, kept_on_threads};
+use crate::tests::store::{buffers, entities, grants, steps, texts, unions};
+use crate::tests::threads::{judged, refuse, refuse_kept_on_threads, refuse_on_threads};
 use crate::tests::trials::TRIALS;
 use std::alloc::Global;
 use std::env;
@@ -58,9 +61,11 @@ fn runs_alone(alloc: Global) -> [Test; 6] {
 }
 
 // The tests of what stands below engines.
-fn parts(alloc: Global) -> [Test; 6] {
+fn parts(alloc: Global) -> [Test; 9] {
     [
         ("entities of a store", entities(alloc)),
+        ("three ids and three more", grants(alloc)),
+        ("two plans beside an insert", two_plans(alloc)),
         (
             "two plans in a thousand random worlds",
             random_worlds(alloc),
@@ -68,6 +73,7 @@ fn parts(alloc: Global) -> [Test; 6] {
         ("events in two buffers", buffers(alloc)),
         ("what two systems touch together", unions(alloc)),
         ("steps of a core", steps(alloc)),
+        ("levels, and what is ready in turn", levels(alloc)),
         ("texts of traces", texts(alloc)),
     ]
 }
@@ -81,8 +87,8 @@ fn kept(alloc: Global) -> [Test; 3] {
         ),
         ("a run that is kept leaves the state", kept_state(alloc)),
         (
-            "a refusal in a run that is kept leaves the resources",
-            kept_total(alloc),
+            "three refusals of runs that are kept leave the round",
+            kept_round(alloc),
         ),
     ]
 }
@@ -91,7 +97,7 @@ fn kept(alloc: Global) -> [Test; 3] {
 fn bodies_on_threads<R: Threads + Wait + Copy + Send + Sync + 'static>(
     rt: R,
     alloc: Global,
-) -> [Test; 2] {
+) -> [Test; 3] {
     [
         (
             "bodies of two types in boxes on threads",
@@ -100,6 +106,10 @@ fn bodies_on_threads<R: Threads + Wait + Copy + Send + Sync + 'static>(
         (
             "a refusal beside three others spoils an engine",
             refuse_on_threads(rt, alloc),
+        ),
+        (
+            "three refusals beside three others spoil nothing in runs that are kept",
+            refuse_kept_on_threads(rt, alloc),
         ),
     ]
 }
@@ -120,13 +130,14 @@ fn between_runs(alloc: Global) -> [Test; 3] {
 }
 
 // The tests of a board of jobs.
-fn boards<R: Threads>(runtime: &R, alloc: Global) -> [Test; 2] {
+fn boards<R: Threads + Wait>(runtime: &R, alloc: Global) -> [Test; 3] {
     [
         ("a board of one slot and one hand", one_slot(alloc)),
         (
             "two hands in threads of their own",
             two_hands(runtime, alloc),
         ),
+        ("a hand and a lead that wait", waits(runtime, alloc)),
     ]
 }
 
@@ -169,10 +180,44 @@ fn made_again(alloc: Global) -> [Test; 5] {
     ]
 }
 
+// The tests of programs whose runs are kept, which are taken once more where an allocation or a thread is refused.
+fn kept_again_on_threads<R: Threads + Wait + Copy + Send + Sync + 'static>(
+    rt: R,
+    alloc: Global,
+) -> [Test; 6] {
+    [
+        ("a movement that is kept", kept_row(alloc, Row::Moves)),
+        (
+            "a movement that is kept, on two threads",
+            kept_on_threads(rt, alloc, Row::Moves),
+        ),
+        ("spawns that are kept", kept_row(alloc, Row::Spawns)),
+        (
+            "spawns that are kept, on two threads",
+            kept_on_threads(rt, alloc, Row::Spawns),
+        ),
+        ("a count that is kept", kept_row(alloc, Row::Counts)),
+        (
+            "a count that is kept, on two threads",
+            kept_on_threads(rt, alloc, Row::Counts),
+        ),
+    ]
+}
+
+// The tests of both, told.
+fn tell_again<W: Write, R: Threads + Wait + Copy + Send + Sync + 'static>(
+    rt: R,
+    alloc: Global,
+    out: &mut W,
+) -> io::Result<()> {
+    tell(out, &made_again(alloc))?;
+    tell(out, &kept_again_on_threads(rt, alloc))
+}
+
 // With an argument only the calls that are taken once more are made.
 fn main(rt: HostRuntime) -> io::Result<()> {
     if env::args(&rt)?.skip(1).next().is_some() {
-        return tell(&mut rt.stdout(), &made_again(rt.alloc()));
+        return tell_again(rt, rt.alloc(), &mut rt.stdout());
     }
     tell(&mut rt.stdout(), &runs_alone(rt.alloc()))?;
     tell(&mut rt.stdout(), &parts(rt.alloc()))?;
@@ -181,5 +226,5 @@ fn main(rt: HostRuntime) -> io::Result<()> {
     tell(&mut rt.stdout(), &boards(&rt, rt.alloc()))?;
     tell(&mut rt.stdout(), &bodies_on_threads(rt, rt.alloc()))?;
     tell_trials(rt, rt.alloc(), &mut rt.stdout())?;
-    tell(&mut rt.stdout(), &made_again(rt.alloc()))
+    tell_again(rt, rt.alloc(), &mut rt.stdout())
 }

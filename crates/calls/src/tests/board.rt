@@ -5,6 +5,7 @@ ghost use Rattle.job_board.specs.Ends.{lead_view};
 
 use job_board::{Board, Hand, Lead, Task};
 use std::alloc::Global;
+use std::sync::Wait;
 use std::thread::{Threads, join};
 
 // A job is a number, and its outcome is the same number.
@@ -54,6 +55,23 @@ pub(crate) fn one_slot(alloc: Global) -> Option<bool> {
             && lead.try_collect() == Some((1, 4))
             && is_posted(&mut lead, 5, Some(2)),
     )
+}
+
+/// A hand that waits takes the job that is posted, the lead that waits collects its outcome, and once the board is closed a hand waits no longer.
+pub(crate) fn waits<R: Wait>(runtime: &R, alloc: Global) -> Option<bool> {
+    let Ok((mut lead, mut hands)) = Board::new::<Same>(alloc, 1, 1) else {
+        return None;
+    };
+    let mut hand = hands.pop()?;
+    let Ok(posted) = lead.post(4) else {
+        return None;
+    };
+    let (number, job) = hand.take_wait(runtime)?;
+    hand.done(number, job);
+    let collected = lead.collect_wait(runtime);
+    lead.close();
+    let is_over = hand.take_wait(runtime) == None;
+    Some(posted == 1 && (number, job) == (1, 4) && collected == (1, 4) && is_over)
 }
 
 // Takes a job that waits and does it. Answers its number, 0 where none waits.

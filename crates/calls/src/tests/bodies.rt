@@ -22,7 +22,7 @@ pub enum TestBody {
     Answer(Option<u32>),
     /// It adds the step to the total, and counts its runs in register 0.
     Tally,
-    /// It refuses with 7 where the total is 1.
+    /// It refuses with 7 where the round is 1.
     Refuse,
     /// It looks whether somebody is past a gate.
     Watch(Arc<TestGate, Global>),
@@ -57,7 +57,7 @@ impl Body for TestBody {
             TestBody::Tally => {
                 params.writes_resource(Res::Total) && params.names_resource(Res::Step)
             }
-            TestBody::Refuse => params.names_resource(Res::Total),
+            TestBody::Refuse => params.names_resource(Res::Round),
             TestBody::Watch(_) => true,
             TestBody::Meet(_) => true,
             TestBody::Follow(script) => Body::fits(script, params),
@@ -72,7 +72,7 @@ impl Body for TestBody {
                 tally(view);
                 Ok(())
             }
-            TestBody::Refuse if view.res(Res::Total) == 1 => Err(BodyFault::Refused(7)),
+            TestBody::Refuse if view.res(Res::Round) == 1 => Err(BodyFault::Refused(7)),
             TestBody::Refuse => Ok(()),
             TestBody::Watch(gate) => {
                 gate.look();

@@ -11,7 +11,7 @@ use engine::first_state::first_state;
 use engine::{Engine, NewFault};
 use query::Query;
 use schedule_builder::builder::build;
-use schedule_builder::{Built, ScheduleDesc, SystemDesc};
+use schedule_builder::{Built, ChainDesc, ScheduleDesc, SystemDesc};
 use script::{Block, Instruction, Rounds, ScriptBody};
 use std::alloc::Global;
 
@@ -53,13 +53,32 @@ fn code(alloc: Global, instructions: &[&str]) -> Option<Vec<Instruction>> {
 
 /// The schedule of systems with these parameters, in no order.
 pub(crate) fn built_of(alloc: Global, params: Vec<Params>) -> Option<Box<Built>> {
+    let desc = declared(alloc, params)?;
+    Box::new(alloc, build(alloc, desc).ok()?).ok()
+}
+
+// The same where each system but the first comes after the one before it.
+fn chained(alloc: Global, params: Vec<Params>) -> Option<Box<Built>> {
+    let mut desc = declared(alloc, params)?;
+    let mut chain = ChainDesc::new(alloc, false);
+    for system in desc.systems() {
+        chain
+            .add_item(String::from_str(alloc, system.item().name()).ok()?)
+            .ok()?;
+    }
+    desc.add_chain(chain).ok()?;
+    Box::new(alloc, build(alloc, desc).ok()?).ok()
+}
+
+// Systems with these parameters, each named by its number.
+fn declared(alloc: Global, params: Vec<Params>) -> Option<ScheduleDesc> {
     let mut desc = ScheduleDesc::new(alloc);
     let mut number = 0u32;
     for params in params {
         add_system(&mut desc, alloc, number, params)?;
         number = number.wrapping_add(1);
     }
-    Box::new(alloc, build(alloc, desc).ok()?).ok()
+    Some(desc)
 }
 
 // Adds a system that is named by a number.
@@ -90,6 +109,18 @@ pub(crate) fn made<B: Body>(
     requires { AreAllHome world.value.layout }
 {
     let built = built_of(alloc, params)?;
+    engine_of(alloc, built, world, bodies)
+}
+
+// The same of a schedule.
+fn engine_of<B: Body>(
+    alloc: Global,
+    built: Box<Built>,
+    world: Box<World>,
+    bodies: Vec<B>,
+) -> Option<Result<Box<Engine<B>>, NewFault>>
+    requires { AreAllHome world.value.layout }
+{
     let state = begun(alloc, &built, world)?;
     match Engine::new(
         alloc,
@@ -144,5 +175,13 @@ impl Systems {
         requires { AreAllHome world.value.layout }
     {
         made(alloc, world, self.params, self.bodies)?.ok()
+    }
+
+    /// The engine of these systems over a world, each after the one before it.
+    pub(crate) fn chain(self, alloc: Global, world: Box<World>) -> Option<TestEngine>
+        requires { AreAllHome world.value.layout }
+    {
+        let built = chained(alloc, self.params)?;
+        engine_of(alloc, built, world, self.bodies)?.ok()
     }
 }

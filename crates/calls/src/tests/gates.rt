@@ -20,6 +20,8 @@ pub enum Rule {
     Gather(u64),
     /// The first of these, until the second has left.
     Hold(u64, u64),
+    /// Each but this one, until it has left.
+    Await(u64),
 }
 
 /// A gate that holds starts by a rule until its patience is at an end. It needs no lock, so no runtime: who waits lets others run, and looks
@@ -93,6 +95,7 @@ impl TestGate {
             Rule::Open => true,
             Rule::Gather(wanted) => self.most() >= wanted,
             Rule::Hold(held, awaited) => number != held || self.has_left(awaited),
+            Rule::Await(awaited) => number == awaited || self.has_left(awaited),
         }
     }
 

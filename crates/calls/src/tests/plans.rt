@@ -5,11 +5,14 @@ ghost use Rattle.archetype_store.specs.Layout.{AreAllHome};
 ghost use Rattle.archetype_store.specs.Shapes.{shape_number};
 ghost use Rattle.query_plan.specs.Candidates.{shape_of as shape_asked};
 
+use crate::tests::worlds::{give, world_of_many};
 use archetype_store::World;
+use change_ticks::Clock;
 use entity_table::Entity;
+use kinds::component::{Frozen, Health};
 use query::Query;
 use query_plan::plan::{plan, plan_by};
-use query_plan::{Plan, RowBuffers, prove_picks_home};
+use query_plan::{Plan, RowBuffers, prove_picks_home, shape_of};
 use std::alloc::Global;
 
 /// The entity of an index that lives for the first time.
@@ -18,6 +21,20 @@ pub(crate) fn entity(index: u32) -> Entity {
         index,
         generation: 1,
     }
+}
+
+/// A query of health has rows of the two that have it, and of the third once that has it too.
+pub(crate) fn two_plans(alloc: Global) -> Option<bool> {
+    let mut world = world_of_many(alloc, Clock::at(1), 3)?;
+    give(&mut world, entity(0), Frozen {})?;
+    give(&mut world, entity(1), Health { v: 3 })?;
+    give(&mut world, entity(2), Health { v: 4 })?;
+    give(&mut world, entity(2), Frozen {})?;
+    let query = Query::read(alloc, "read Health").ok()?;
+    let shape = world.register(&shape_of(&query)).ok()?;
+    let are_two = are_planned(alloc, &world, &query, shape, &[1, 2])?;
+    give(&mut world, entity(0), Health { v: 9 })?;
+    Some(are_two && are_planned(alloc, &world, &query, shape, &[0, 1, 2])?)
 }
 
 // Whether the rows of a plan are of these indices.

@@ -13,6 +13,7 @@ use body::State;
 use change_ticks::Clock;
 use engine::{Engine, RunFault};
 use kinds::Res;
+use script::Rounds;
 use std::alloc::Global;
 
 // A world in which the step has a value.
@@ -35,7 +36,14 @@ fn tallying(alloc: Global) -> Option<Params> {
 // The parameters of the system that refuses.
 fn refusing(alloc: Global) -> Option<Params> {
     let mut params = Params::new(alloc);
-    params.add_res(Res::Total).ok()?;
+    params.add_res(Res::Round).ok()?;
+    Some(params)
+}
+
+// The parameters of the system that turns the round.
+fn turning(alloc: Global) -> Option<Params> {
+    let mut params = Params::new(alloc);
+    params.add_res_mut(Res::Round).ok()?;
     Some(params)
 }
 
@@ -46,12 +54,12 @@ fn adding_five(alloc: Global) -> Option<TestEngine> {
     systems.engine(alloc, world(alloc, 5)?)
 }
 
-// An engine of a system that refuses where the total is 1 and, after it, one that adds 1 to the total.
+// An engine of a system that refuses in round 1 and, after it, one that adds 1 to the round.
 fn refusing_at_one(alloc: Global) -> Option<TestEngine> {
     let mut systems = Systems::new(alloc);
     systems.add(refusing(alloc)?, TestBody::Refuse)?;
-    systems.add(tallying(alloc)?, TestBody::Tally)?;
-    systems.engine(alloc, world(alloc, 1)?)
+    systems.follow(alloc, turning(alloc)?, Rounds::Once, &["add Round 1"])?;
+    systems.chain(alloc, empty_world(alloc, Clock::at(1))?)
 }
 
 /// After three runs the total is 15 since tick 9 and the step 5 since tick 1, and register 0 of the one system is 3.
@@ -73,16 +81,21 @@ fn is_tallied(state: &State) -> bool {
     total == (15, 9) && step == (5, 1) && registers == [3, 0, 0, 0, 0, 0, 0, 0]
 }
 
-// The total.
-fn total(engine: &Engine<TestBody>) -> i64 {
-    engine.state().world().res(Res::Total)
+// The round.
+fn round(engine: &Engine<TestBody>) -> i64 {
+    engine.state().world().res(Res::Round)
 }
 
-/// Three runs of which the second is refused leave the total at 0, and one run then adds to it.
-pub(crate) fn kept_total(alloc: Global) -> Option<bool> {
+/// Runs of which the second is refused leave round 0, as often as they are taken, and one run then adds to it.
+pub(crate) fn kept_round(alloc: Global) -> Option<bool> {
     let mut engine = refusing_at_one(alloc)?;
-    let is_refused = Way::Kept.run(&mut engine, alloc, 3) == Some(RunFault::BodyFault(7));
-    let before = total(&engine);
+    let calls = [
+        (3, Some(RunFault::BodyFault(7))),
+        (2, Some(RunFault::BodyFault(7))),
+        (3, Some(RunFault::BodyFault(7))),
+    ];
+    let is_refused = Way::Kept.runs_are(&mut engine, alloc, &calls);
+    let before = round(&engine);
     let has_run = Way::Kept.run(&mut engine, alloc, 1) == None;
-    Some(is_refused && before == 0 && has_run && total(&engine) == 1)
+    Some(is_refused && before == 0 && has_run && round(&engine) == 1)
 }

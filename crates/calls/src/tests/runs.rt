@@ -61,6 +61,8 @@ pub struct Plan {
     pub times: u32,
     /// Whether each start has a thread of its own.
     pub in_threads: bool,
+    /// Whether a fault of the runs leaves no trace.
+    pub is_kept: bool,
     /// The steps that the first run may record.
     pub records: &'static [[Step; 7]],
 }
@@ -79,6 +81,7 @@ pub const ONCE: Plan = Plan {
     workers: 2,
     times: 1,
     in_threads: false,
+    is_kept: false,
     records: &[],
 };
 
@@ -110,7 +113,11 @@ fn run_in_scope<'s, E: 's, R: Threads + Wait + Copy + Send + 's, B: Body + 's>(
     if plan.in_threads {
         mode = mode.each_in_a_thread();
     }
-    let traces = engine.run(alloc, plan.times, &mode)?;
+    let traces = if plan.is_kept {
+        engine.run_kept(alloc, plan.times, &mode)?
+    } else {
+        engine.run(alloc, plan.times, &mode)?
+    };
     Ok(seen(traces.as_slice(), plan.records))
 }
 

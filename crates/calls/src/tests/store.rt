@@ -4,7 +4,7 @@ ghost use Rattle.std.specs.Prelude.{};
 ghost use Rattle.archetype_store.specs.Layout.{AreAllHome};
 
 use crate::tests::engines::{built_of, params};
-use crate::tests::worlds::{FIRST, put, settle_used, world_of_one};
+use crate::tests::worlds::{FIRST, empty_world, put, settle_three, settle_used, world_of_one};
 use access_set::Params;
 use access_set::conflict::conflicts;
 use archetype_store::{StoreFault, World};
@@ -53,11 +53,34 @@ fn is_despawned(world: &mut World) -> Option<bool>
 fn is_granted_again(alloc: Global, world: &mut World) -> Option<bool> {
     let ids = world.grant(alloc, 1).ok()?;
     settle_used(world, ids.as_slice());
-    let again = Entity {
-        index: 0,
-        generation: 2,
+    Some(world.next_living(0) == Some(id(0, 2)))
+}
+
+// An id.
+fn id(index: u32, generation: u32) -> Entity {
+    Entity { index, generation }
+}
+
+// Whether three ids of a new world are the first three, of which the second is not used and the first then dies.
+fn are_settled(alloc: Global, world: &mut World) -> Option<bool>
+    requires { AreAllHome world.old.layout }
+{
+    let granted = world.grant(alloc, 3).ok()?;
+    let [first, second, third] = granted.as_slice() else {
+        return None;
     };
-    Some(world.next_living(0) == Some(again))
+    settle_three(world, [*first, *second, *third]);
+    world.despawn(*first).ok()?;
+    Some((*first, *second, *third) == (id(0, 1), id(1, 1), id(2, 1)))
+}
+
+/// Of three ids one is not used and one dies: the next three take their indices, at the next generation, and one that is new.
+pub(crate) fn grants(alloc: Global) -> Option<bool> {
+    let mut world = empty_world(alloc, Clock::at(1))?;
+    let is_settled = are_settled(alloc, &mut world)?;
+    let granted = world.grant(alloc, 3).ok()?;
+    let are_next = granted.as_slice() == [id(0, 2), id(1, 2), id(3, 1)].as_slice();
+    Some(is_settled && are_next && !world.lives(id(0, 1)) && world.lives(id(2, 1)))
 }
 
 // The values of two lists of events.

@@ -192,3 +192,23 @@ pub(crate) fn refuse_on_threads<R: Threads + Wait + Copy + Send + Sync + 'static
     let is_spoiled = setup.run(runtime, alloc) == Some(RunFault::Spoiled);
     Some(is_refused && is_spoiled && setup.place.most() == 4)
 }
+
+/// In runs that are kept it spoils nothing: it may refuse three times, each time before the three others beside it run.
+pub(crate) fn refuse_kept_on_threads<R: Threads + Wait + Copy + Send + Sync + 'static>(
+    runtime: R,
+    alloc: Global,
+) -> Option<bool> {
+    let mut engine = answering(alloc, 3, true)?;
+    let plan = Plan {
+        workers: 4,
+        is_kept: true,
+        ..ONCE
+    };
+    let mut is_kept = true;
+    for _ in 0..3 {
+        let gate = TestGate::new(alloc, Rule::Await(4))?;
+        let fault = run_on_threads(runtime, &gate, alloc, plan, &mut engine).err();
+        is_kept = is_kept && fault == Some(RunFault::BodyFault(7)) && gate.faults() == 0;
+    }
+    Some(is_kept && !engine.is_spoiled())
+}

@@ -84,6 +84,7 @@ const BY_THREE: Plan = Plan {
     workers: 3,
     times: 1,
     in_threads: false,
+    is_kept: false,
     records: &[],
 };
 
@@ -91,6 +92,7 @@ const BY_ALL: Plan = Plan {
     workers: 64,
     times: 1,
     in_threads: false,
+    is_kept: false,
     records: &[],
 };
 
@@ -98,6 +100,7 @@ const BY_ONE: Plan = Plan {
     workers: 1,
     times: 1,
     in_threads: false,
+    is_kept: false,
     records: &[],
 };
 
@@ -106,6 +109,7 @@ const IN_THREADS: Plan = Plan {
     workers: 2,
     times: 1,
     in_threads: true,
+    is_kept: false,
     records: &[],
 };
 
@@ -114,6 +118,7 @@ const RECORDED: Plan = Plan {
     workers: 2,
     times: 1,
     in_threads: false,
+    is_kept: false,
     records: &HELD,
 };
 
@@ -122,6 +127,7 @@ const MANY_TIMES: Plan = Plan {
     workers: 8,
     times: 10_000,
     in_threads: false,
+    is_kept: false,
     records: &[],
 };
 

@@ -54,8 +54,8 @@ pub(crate) fn put<C: Component>(world: &mut World, component: C) -> Option<()>
     give(world, FIRST, component)
 }
 
-// Gives an entity a component at tick 1. None where it does not live, or an allocation fails.
-fn give<C: Component>(world: &mut World, entity: Entity, component: C) -> Option<()>
+/// Gives an entity a component at tick 1. None where it does not live, or an allocation fails.
+pub(crate) fn give<C: Component>(world: &mut World, entity: Entity, component: C) -> Option<()>
     requires clock { 1 ≤ world.old.state.clock }
     requires home { AreAllHome world.old.layout }
     ensures clock { 1 ≤ world.new.state.clock }
@@ -84,6 +84,17 @@ pub(crate) fn settle_used(world: &mut World, ids: &[Entity])
     ensures layout { world.new.layout ≡ world.old.layout }
 {
     world.settle(ids, &[]);
+}
+
+/// Settles three granted ids: the first and the last as used, and the one between them as unused.
+pub(crate) fn settle_three(world: &mut World, ids: [Entity; 3])
+    requires granted { All (IsGranted world.old.state.slots) ids }
+    requires apart { AreApart ids }
+    ensures clock { world.new.state.clock ≡ world.old.state.clock }
+    ensures layout { world.new.layout ≡ world.old.layout }
+{
+    let [first, between, last] = ids;
+    world.settle(&[first, last], &[between]);
 }
 
 /// A world at a clock in which so many entities live, without components.
