@@ -132,10 +132,17 @@ abbrev pub IsLostBy : {B : Type 0} → (B → Params → BodyMeaning) → Bool �
 IsLostBy meaning scope width old (Run times) fault new = HasLost meaning scope width times old fault new
 IsLostBy meaning scope width old _ fault new = ⊥
 
+-- whether a request may be refused memory, and then changes nothing: where a run is, its state is lost
+abbrev pub takes_memory : Asked → Bool
+takes_memory (Run times) = false
+takes_memory (Forget name) = false
+takes_memory Quit = false
+takes_memory _ = true
+
 -- what a request may be replied by a session, with room for so many running systems, in threads or not, and what it leaves. An allocation may
 -- fail at any time, and nothing has changed then
 abbrev pub IsAnswer : {B : Type 0} → (B → Params → BodyMeaning) → Bool → ℕ → Live B → Asked → Reply → Live B → Type 0
 IsAnswer meaning scope width old request (Done clock shown) new = (clock ≡ clock_in new) × IsDone meaning width old request (shown_text shown) new
 IsAnswer meaning scope width old request (Refused why) new = (new ≡ old) × IsRefusedFor old request why
-IsAnswer meaning scope width old request Failed new = new ≡ old
+IsAnswer meaning scope width old request Failed new = (takes_memory request ≡ true) × (new ≡ old)
 IsAnswer meaning scope width old request (Lost fault) new = IsLostBy meaning scope width old request fault new
