@@ -1,6 +1,6 @@
 -- Lists of events by kind.
-use Rattle.std.proofs.Common.{◌≡◌, ℕ, zero, suc, ◌+◌, ◌<◌, ◌≤◌, Bool, true, false, cond, ◌==◌, ◌||◌, ◌&&◌, ℤ, List, [], ◌∷◌, ◌++◌, length, get_or, set, drop, take, map, Option, Some, None, option_map, refl, sym, ap, ◌∙◌, arith}
-use Rattle.std.proofs.lemmas.List.{map-append, take_more, drop_more}
+use Rattle.std.proofs.Common.{◌≡◌, ℕ, zero, suc, ◌+◌, ◌<◌, Bool, true, false, cond, ◌==◌, ◌||◌, ◌&&◌, ℤ, List, [], ◌∷◌, ◌++◌, length, get_or, set, take, map, Option, Some, None, option_map, refl, sym, ap, ◌∙◌, arith}
+use Rattle.std.proofs.lemmas.List.{map-append, take_more}
 use Rattle.kinds.specs.declared.res.Event.{Event}
 use Rattle.kinds.specs.Res.{event_number}
 use Rattle.model.specs.Lists.{has, map_index, all_index, update_at}
@@ -9,7 +9,7 @@ use Rattle.model.specs.state.Events.{queue_of, unread, can_send, send_all}
 use Rattle.model.specs.shown.Input.{unread_of}
 use Rattle.model.specs.shown.Outcome.{events_sent}
 use Rattle.model.specs.shown.Overlay.{queues_after, has_event_numbers}
-use Rattle.event_buffers.specs.Lists.{ListValue, ListsValue, lists_of, place_in, with_event}
+use Rattle.event_buffers.specs.Lists.{ListValue, ListsValue, lists_of, place_in, can_send_in_turn, with_event}
 
 -- ---- lists of kinds
 
@@ -30,14 +30,6 @@ lists-more lists l = λ i. record { kinds = map-append (λ (x : ListValue). x.ki
 
 numbers-more : (kinds : List Event) (i : ℕ) (k : Event) → i < length kinds → map event_number (take (i + 1) kinds) ≡ map event_number (take i kinds) ++ event_number (get_or kinds i k) ∷ []
 numbers-more kinds i k l = ap (map event_number) (take_more kinds i k l) ∙ map-append event_number (take i kinds) (get_or kinds i k ∷ [])
-
-pub empty-more : (lists : List ListValue) (l : ListValue) (kinds : List Event) (i : ℕ) (k : Event) → i < length kinds → lists_of lists ≡ empty_lists (map event_number (take i kinds)) →
-    l ≡ record { kind = event_number (get_or kinds i k); values = [] } → lists_of (lists ++ l ∷ []) ≡ empty_lists (map event_number (take (i + 1) kinds))
-empty-more lists l kinds i k b h e =
-    let n = event_number (get_or kinds i k) in
-    lists-more lists l ∙ ap (λ (x : ListValue). with_list (lists_of lists) x.kind x.values) e ∙ ap (λ x. with_list x n []) h
-    ∙ (λ j. record { kinds = map event_number (take i kinds) ++ n ∷ []; values = sym (map-append (λ (kind : ℕ). let none : List ℤ = [] in none) (map event_number (take i kinds)) (n ∷ [])) j })
-    ∙ ap empty_lists (sym (numbers-more kinds i k b))
 
 unread_of-more : (queues : List EventQueue) (kinds : List ℕ) (k : ℕ) (cursors : List ℕ) → unread_of queues (kinds ++ k ∷ []) cursors ≡ unread_of queues kinds cursors ++ unread (queue_of queues k) (get_or cursors (length kinds) 0) ∷ []
 unread_of-more queues [] k [] = refl
@@ -63,33 +55,8 @@ unread-more queues cursors lists l kinds i k b h e =
 
 -- ---- the list of a kind
 
-kinds_in : List ListValue → List ℕ
-kinds_in lists = map (λ (l : ListValue). l.kind) lists
-
 pub choose : {A : Type 0} (b c : Bool) (x y : A) → b ≡ c → cond b x y ≡ cond c x y
 choose b c x y e = cc
-
-shifted : (i : ℕ) (o : Option ℕ) → option_map (λ n. i + n) (option_map suc o) ≡ option_map (λ n. (i + 1) + n) o
-shifted i None = refl
-shifted i (Some n) = ap Some (omega arith)
-
-pub place-here : (lists : List ListValue) (i k : ℕ) (d : ListValue) → i < length lists → ((get_or lists i d).kind == k) ≡ true →
-    option_map (λ n. i + n) (place_in (map (λ (l : ListValue). l.kind) (drop i lists)) k) ≡ Some i
-place-here lists i k d l e =
-    let rest = map (λ (l : ListValue). l.kind) (drop (i + 1) lists) in
-    ap (λ xs. option_map (λ n. i + n) (place_in (map (λ (l : ListValue). l.kind) xs) k)) (drop_more lists i d l)
-    ∙ ap (option_map (λ n. i + n)) (choose ((get_or lists i d).kind == k) true (Some 0) (option_map suc (place_in rest k)) e)
-    ∙ ap Some (omega arith)
-
-pub place-none : (lists : List ListValue) (i k : ℕ) → length lists ≤ i → option_map (λ n. i + n) (place_in (map (λ (l : ListValue). l.kind) (drop i lists)) k) ≡ None
-place-none [] zero k l = refl
-place-none [] (suc i) k l = refl
-place-none (x ∷ xs) zero k l = absurd (omega arith)
-place-none (x ∷ xs) (suc i) k l = nothing (place_in (map (λ (l : ListValue). l.kind) (drop i xs)) k) (place-none xs i k (omega arith))
-  where
-    nothing : (o : Option ℕ) → option_map (λ n. i + n) o ≡ None → option_map (λ n. suc i + n) o ≡ None
-    nothing None h = refl
-    nothing (Some n) h = absurd (cc)
 
 -- ---- by the place of a kind
 
@@ -197,6 +164,16 @@ numbers-each events (a ∷ b ∷ []) l = absurd (omega arith)
 numbers-each events (a ∷ b ∷ c ∷ []) l = absurd (omega arith)
 numbers-each events (a ∷ b ∷ c ∷ d ∷ []) l = refl
 numbers-each events (a ∷ b ∷ c ∷ d ∷ e ∷ more) l = absurd (omega arith)
+
+-- the same where they are sent kind by kind: those of one kind take no number from another
+pub numbers-in-turn : (events : ℕ → List ℤ) (queues : List EventQueue) → length queues ≡ 4 → can_send_in_turn events (0 ∷ 1 ∷ 2 ∷ 3 ∷ []) queues ≡ has_event_numbers events queues
+unfolding has_event_numbers
+numbers-in-turn events [] l = absurd (omega arith)
+numbers-in-turn events (a ∷ []) l = absurd (omega arith)
+numbers-in-turn events (a ∷ b ∷ []) l = absurd (omega arith)
+numbers-in-turn events (a ∷ b ∷ c ∷ []) l = absurd (omega arith)
+numbers-in-turn events (a ∷ b ∷ c ∷ d ∷ []) l = refl
+numbers-in-turn events (a ∷ b ∷ c ∷ d ∷ e ∷ more) l = absurd (omega arith)
 
 -- the queues once the events of all four kinds are sent, kind by kind
 pub sent-each : (events : ℕ → List ℤ) (queues : List EventQueue) → length queues ≡ 4 →

@@ -1,5 +1,5 @@
 -- Numbered events: a list after another, those from a cursor on.
-use Rattle.std.proofs.Common.{◌≡◌, ℕ, zero, suc, ℤ, ◌+◌, ◌-◌, ◌≤◌, ◌<◌, Bool, true, false, ◌&&◌, nat_lt, List, [], ◌∷◌, ◌++◌, length, map, filter, drop, min, nat_le, refl, sym, ap, ap₂, ◌∙◌, arith, le-leb, append_assoc, append-nil, length-append, subst}
+use Rattle.std.proofs.Common.{◌≡◌, ℕ, zero, suc, ℤ, ◌+◌, ◌-◌, ◌≤◌, ◌<◌, Bool, true, false, ◌&&◌, nat_lt, List, [], ◌∷◌, ◌++◌, length, map, filter, drop, min, nat_le, refl, sym, ap, ap₂, ◌∙◌, arith, le-leb, append_assoc, append-nil, length-append, subst, cond, is_ok, Result, Ok, Err, OnOk}
 use Rattle.std.proofs.lemmas.Bool.{and_from, cond-true, cond-false, lt-leb, lt-ltb, ltb-true, leb-true, leb-false}
 use Rattle.std.proofs.lemmas.List.{map-append}
 use Rattle.std.proofs.lemmas.List.Elements.{filter-append}
@@ -120,6 +120,15 @@ numbered-room values queue most can = go (nat_le (length values) (last_tick - qu
     go : (b : Bool) → nat_le (length values) (last_tick - queue.next) ≡ b → queue.next + length values ≤ last_tick
     go true e = let l = leb-true (length values) (last_tick - queue.next) e in omega (arith, most)
     go false e = absurd (let f : false ≡ true = sym e ∙ numbered-is values queue most ∙ can in cc)
+
+-- where they get numbers they may be added, or not where there is no memory
+pub sent-room : (b : Bool) (n : ℕ) (older newer values items : List ℤ) → items ≡ cond b (newer ++ values) newer → n + length older + length newer + length values ≤ last_tick → n + length older + length items ≤ last_tick
+sent-room true n older newer values items e l = let s = ap length e ∙ length-append newer values in omega arith
+sent-room false n older newer values items e l = let s = ap length e in omega arith
+
+pub sent-all : {E : Type 0} (r : Result (Unit {0}) E) (n : ℕ) (older newer values items : List ℤ) (queue : EventQueue) → items ≡ cond (is_ok r) (newer ++ values) newer → queue_of_parts n older newer ≡ queue → OnOk r (queue_of_parts n older items ≡ send_all values queue)
+sent-all (Ok x) n older newer values items queue e is = ap (queue_of_parts n older) e ∙ send-all-parts n older newer values ∙ ap (send_all values) is
+sent-all (Err x) n older newer values items queue e is = tt
 
 -- ---- the shape of a queue
 

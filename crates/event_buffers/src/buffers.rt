@@ -1,6 +1,6 @@
 // The kept events of every kind.
 
-ghost use Rattle.std.specs.Prelude.{◌≡◌, ◌↔◌, ◌++◌, ◌≤◌, false, IsErrOf, IfOk, OnOk, OnErr, map, replicate, length};
+ghost use Rattle.std.specs.Prelude.{◌≡◌, ◌↔◌, ◌++◌, ◌≤◌, true, IsErrOf, IfOk, OnOk, OnErr, map, replicate, length};
 ghost use Rattle.std.specs.List.{AllByRecursion};
 ghost use Rattle.kinds.specs.Res.{event_number};
 ghost use Rattle.model.specs.Lists.{update_at};
@@ -107,16 +107,15 @@ impl Events {
         self.queues[kind.number() as usize].can_send(values)
     }
 
-    /// Sends events of a kind, in order. Where one gets no number, or an allocation fails, none is sent.
-    pub fn send_all(&mut self, kind: Event, values: &[i64]) -> Result<(), SendFault>
+    // Sends events of a kind that all get numbers, in order. Where an allocation fails none is sent.
+    pub(crate) fn send_numbered(&mut self, kind: Event, values: &[i64]) -> Result<(), AllocError>
+        requires { can_send values.now (queue_of self.old (event_number kind)) ≡ true }
         ensures ok { OnOk result (self.new
             ≡ update_at (event_number kind) (send_all values.now) self.old) }
-        ensures spent { IsErrOf result SendFault.NumbersSpent
-            ↔ (can_send values.now (queue_of self.old (event_number kind)) ≡ false) }
         ensures err { OnErr result (self.new ≡ self.old) }
     {
         let queue = &mut self.queues[kind.number() as usize];
-        queue.send_all(values)
+        queue.send_numbered(values)
     }
 
     /// The kept events of a kind from a cursor on. Allocates nothing.

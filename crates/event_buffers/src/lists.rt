@@ -1,6 +1,6 @@
 // Events of some kinds, a list for each.
 
-ghost use Rattle.std.specs.Prelude.{◌≡◌, ◌↔◌, false, IsErrOf, ◌==◌, ◌++◌, [], ◌∷◌, get_or, map, IfOk, IsTrue, OnOk, OnErr};
+ghost use Rattle.std.specs.Prelude.{◌≡◌, ◌↔◌, true, false, IsErrOf, ◌==◌, ◌++◌, [], ◌∷◌, get_or, map, IfOk, IsTrue, OnOk, OnErr};
 ghost use Rattle.std.specs.List.{list_all};
 ghost use Rattle.kinds.specs.Res.{event_number};
 ghost use Rattle.model.specs.Lists.{has, update_at};
@@ -8,7 +8,7 @@ ghost use Rattle.model.specs.state.Events.{queue_of, unread, can_send, send_all}
 ghost use Rattle.model.specs.shown.Input.{unread_of};
 ghost use Rattle.model.specs.shown.Outcome.{events_sent};
 ghost use Rattle.model.specs.shown.Overlay.{queues_after, has_event_numbers};
-ghost use Rattle.event_buffers.specs.Lists.{ListValue, lists_of, place_in, sent_in_turn, with_event};
+ghost use Rattle.event_buffers.specs.Lists.{ListValue, lists_of, place_in, can_send_in_turn, sent_in_turn, with_event};
 
 use crate::buffers::Events;
 use crate::queue::SendFault;
@@ -266,8 +266,10 @@ impl EventLists {
         events.can_send(kind, self.of_kind(kind))
     }
 
-    // Sends the events of every kind.
-    fn send_every(&self, events: &mut Events) -> Result<(), SendFault>
+    // Sends the events of every kind, which all get numbers.
+    fn send_every(&self, events: &mut Events) -> Result<(), AllocError>
+        requires { has_event_numbers (events_sent self.now.kinds self.now.values) events.old
+            ≡ true }
         ensures { OnOk result (events.new
             ≡ queues_after (events_sent self.now.kinds self.now.values) events.old) }
     {
@@ -275,8 +277,11 @@ impl EventLists {
         self.send_each(&Event::ALL, events)
     }
 
-    // Sends the events of each of these kinds.
-    fn send_each(&self, kinds: &[Event], events: &mut Events) -> Result<(), SendFault>
+    // Sends the events of each of these kinds, which all get numbers.
+    fn send_each(&self, kinds: &[Event], events: &mut Events) -> Result<(), AllocError>
+        requires { can_send_in_turn (events_sent self.now.kinds self.now.values)
+            (map event_number kinds.now) events.old
+            ≡ true }
         ensures { OnOk result (events.new
             ≡ sent_in_turn (events_sent self.now.kinds self.now.values)
             (map event_number kinds.now) events.old) }
@@ -288,14 +293,17 @@ impl EventLists {
         self.send_each(others, events)
     }
 
-    // Sends the events of a kind.
-    fn send_of(&self, kind: Event, events: &mut Events) -> Result<(), SendFault>
+    // Sends the events of a kind, which all get numbers.
+    fn send_of(&self, kind: Event, events: &mut Events) -> Result<(), AllocError>
+        requires { can_send (events_sent self.now.kinds self.now.values (event_number kind))
+            (queue_of events.old (event_number kind))
+            ≡ true }
         ensures { OnOk result (events.new
             ≡ update_at (event_number kind)
             (send_all (events_sent self.now.kinds self.now.values (event_number kind)))
             events.old) }
     {
-        events.send_all(kind, self.of_kind(kind))
+        events.send_numbered(kind, self.of_kind(kind))
     }
 }
 

@@ -1,6 +1,6 @@
 // The kept events of one kind.
 
-ghost use Rattle.std.specs.Prelude.{◌≡◌, ◌↔◌, ◌++◌, ◌≤◌, ◌+◌, length, false, IsErrOf, IfOk, OnOk, OnErr};
+ghost use Rattle.std.specs.Prelude.{◌≡◌, ◌↔◌, ◌++◌, ◌≤◌, ◌+◌, length, true, IsErrOf, IfOk, OnOk, OnErr};
 ghost use Rattle.model.specs.state.State.{empty_queue, last_tick};
 ghost use Rattle.model.specs.state.Events.{send, send_all, can_send, unread, updated_queue};
 ghost use Rattle.model.specs.state.Shape.{IsQueue};
@@ -118,20 +118,13 @@ impl Queue {
         values.len() as u64 <= NUMBER_LIMIT - self.next()
     }
 
-    /// Sends events, in order. Where one gets no number, or an allocation fails, none is sent.
-    pub fn send_all(&mut self, values: &[i64]) -> Result<(), SendFault>
+    // Sends events that all get numbers, in order. Where an allocation fails none is sent.
+    pub(crate) fn send_numbered(&mut self, values: &[i64]) -> Result<(), AllocError>
+        requires { can_send values.now self.old ≡ true }
         ensures ok { OnOk result (self.new ≡ send_all values.now self.old) }
-        ensures spent { IsErrOf result SendFault.NumbersSpent
-            ↔ (can_send values.now self.old ≡ false) }
         ensures err { OnErr result (self.new ≡ self.old) }
     {
-        if !self.can_send(values) {
-            return Err(SendFault::NumbersSpent);
-        }
-        match self.newer.extend_from_slice(values) {
-            Ok(()) => Ok(()),
-            Err(_) => Err(SendFault::Memory),
-        }
+        self.newer.extend_from_slice(values)
     }
 
     /// The kept events from a cursor on. Allocates nothing.
