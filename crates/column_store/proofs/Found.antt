@@ -10,7 +10,7 @@ use Rattle.model.specs.declared.entities.Entity.{Entity}
 use Rattle.column_store.specs.Column.{ColumnCells}
 use Rattle.column_store.specs.Places.{IsPlace}
 use Rattle.column_store.specs.Inside.{standing_at, seen_column, seen_slot, room_of, write_in, table_of, IsOfLength, IsTable, IsKindPlace, IsKindPlaced, IsNoKind}
-use Rattle.column_store.specs.Table.{Standing, ColumnSlotValue, is_home, is_owned, is_not_away, is_own_if, lent, shared, IsHome, IsAlike}
+use Rattle.column_store.specs.Table.{Standing, ColumnSlotValue, is_home, is_not_away, lent, shared, IsHome, IsAlike}
 use Rattle.column_store.specs.Table.Standing.{Shared, Away}
 use Rattle.column_store.proofs.Lists.{map-update_at_same, set-changed, set-same}
 use Rattle.column_store.proofs.Rows.{place_from_position, nowhere_from_position}
@@ -56,9 +56,6 @@ home_found s o at h = let e : option_map is_home (Some s) ≡ Some true = subst 
 
 pub not_away_found : (s : Standing) (o : Option Standing) → o ≡ Some s → is_not_away o ≡ true → is_home s ≡ true
 not_away_found s o at h = sym (ap is_not_away at) ∙ h
-
-pub own_found : (s : Standing) (o : Option Standing) → o ≡ Some s → is_own_if o ≡ true → is_owned s ≡ true
-own_found s o at h = sym (ap is_own_if at) ∙ h
 
 -- one that isn't there isn't at home
 pub home_there : (o : Option Standing) → o ≡ None → IsHome o → ⊥

@@ -1,5 +1,5 @@
 -- Lists that are edited.
-use Rattle.std.proofs.Common.{◌≡◌, ℕ, zero, suc, ◌<◌, ◌≤◌, List, [], ◌∷◌, length, get_or, set, map, option_map, Some, refl, sym, ap, ◌∙◌, arith}
+use Rattle.std.proofs.Common.{◌≡◌, ℕ, zero, suc, ◌<◌, List, [], ◌∷◌, length, get_or, set, map, option_map, Some, refl, sym, ap, ◌∙◌, arith}
 use Rattle.std.specs.List.{insert, remove, AllByRecursion}
 use Rattle.std.specs.Prelude.{slice_get}
 use Rattle.std.proofs.lemmas.List.{map-set, map-append, take-map, drop-map}
@@ -69,13 +69,6 @@ each-remove P [] zero k = tt
 each-remove P [] (suc i) k = tt
 each-remove P (x ∷ xs) zero k = k.1
 each-remove P (x ∷ xs) (suc i) k = (k.0, each-remove P xs i k.1)
-
--- what was inserted is removed
-pub remove-insert : {A : Type 0} (xs : List A) (i : ℕ) (y : A) → i ≤ length xs → remove (insert xs i y) i ≡ xs
-remove-insert [] zero y l = refl
-remove-insert [] (suc i) y l = absurd (omega arith)
-remove-insert (x ∷ xs) zero y l = refl
-remove-insert (x ∷ xs) (suc i) y l = ap (λ zs. x ∷ zs) (remove-insert xs i y (omega arith))
 
 -- ---- an element that was read by its index
 

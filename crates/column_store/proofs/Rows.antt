@@ -1,5 +1,5 @@
 -- Rows and kinds by their places.
-use Rattle.std.proofs.Common.{◌≡◌, ℕ, zero, suc, ◌+◌, ◌<◌, ◌≤◌, ◌==◌, nat_lt, cond, Bool, true, false, not, List, [], ◌∷◌, length, get_or, map, Some, None, is_some, refl, ap, ◌∙◌, arith}
+use Rattle.std.proofs.Common.{◌≡◌, ℕ, zero, suc, ◌+◌, ◌<◌, ◌≤◌, ◌==◌, nat_lt, cond, Bool, true, false, not, List, [], ◌∷◌, length, get_or, map, Some, None, refl, ap, ◌∙◌, arith}
 use Rattle.std.proofs.lemmas.Bool.Decides.{nat_tests}
 use Rattle.std.specs.List.{position, position_or_len}
 use Rattle.std.specs.Prelude.{slice_get}
@@ -16,10 +16,6 @@ pub row_of-place : (e : Entity) (rows : List TableRow) (i : ℕ) (d : TableRow) 
 row_of-place e [] i d p = absurd p
 row_of-place e (row ∷ rows) zero d p = ap (λ b. cond b (Some row) (row_of e rows)) p
 row_of-place e (row ∷ rows) (suc i) d p = ap (λ b. cond b (Some row) (row_of e rows)) p.0 ∙ row_of-place e rows i d p.1
-
-pub row_of-nowhere : (e : Entity) (rows : List TableRow) → IsNowhere (λ row. is_same row.entity e) rows → row_of e rows ≡ None
-row_of-nowhere e [] p = refl
-row_of-nowhere e (row ∷ rows) p = ap (λ b. cond b (Some row) (row_of e rows)) p.0 ∙ row_of-nowhere e rows p.1
 
 -- ---- a kind, by its place
 
@@ -76,14 +72,3 @@ place_from_position f test xs i h = let p = some_place _ (length xs) i h in plac
 
 pub nowhere_from_position : {A B : Type 0} (f : A → B) (test : B → Bool) (xs : List A) → position (λ x. test (f x)) xs ≡ None → IsNowhere test (map f xs)
 nowhere_from_position f test xs h = nowhere_len f test xs (no_place _ (length xs) h)
-
--- ---- whether an entity has a row
-
-pub row_of-no_entity : (e : Entity) (rows : List TableRow) → IsNowhere (λ x. is_same x e) (map (λ (row : TableRow). row.entity) rows) → row_of e rows ≡ None
-row_of-no_entity e [] p = refl
-row_of-no_entity e (row ∷ rows) p = ap (λ b. cond b (Some row) (row_of e rows)) p.0 ∙ row_of-no_entity e rows p.1
-
-pub row_of-entity : (e : Entity) (rows : List TableRow) (i : ℕ) → IsPlace (λ x. is_same x e) (map (λ (row : TableRow). row.entity) rows) i → is_some (row_of e rows) ≡ true
-row_of-entity e [] i p = absurd p
-row_of-entity e (row ∷ rows) zero p = ap (λ b. is_some (cond b (Some row) (row_of e rows))) p
-row_of-entity e (row ∷ rows) (suc i) p = ap (λ b. is_some (cond b (Some row) (row_of e rows))) p.0 ∙ row_of-entity e rows i p.1
