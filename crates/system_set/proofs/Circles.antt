@@ -1,12 +1,11 @@
 -- Sets that are in themselves, and circles of sets, from what is found of their pairs.
-use Rattle.std.proofs.Common.{ℕ, ◌+◌, ◌<◌, ◌≤◌, ◌≡◌, Bool, true, false, eqb, nat_lt, ◌⊎◌, inl, inr, if◌then◌else◌, List, [], ◌∷◌, ◌++◌, length, take, get_or, Option, Some, None, refl, sym, ap, ◌∙◌, arith, ltb-true, lt-ltb, eqb-true, eq-eqb}
-use Rattle.std.proofs.lemmas.Bool.{both_ways, cases_lt}
+use Rattle.std.proofs.Common.{ℕ, ◌<◌, ◌≤◌, ◌≡◌, List, [], ◌∷◌, ◌++◌, length, take, get_or, Option, Some, None, sym, ap, ◌∙◌, arith}
 use Rattle.model.specs.declarations.Walks.{IsWalk}
 use Rattle.model.specs.declarations.Hierarchy.{IsHeld, HasNoSelf, IsFirstSelf, HasNoSetCycle, IsReportedSetCycle}
 use Rattle.cycle_search.specs.declared.order.Order.{Order}
 use Rattle.cycle_search.specs.Cycles.{IsStep, IsRankable, IsRound, BeginsLeast}
 use Rattle.cycle_search.proofs.Walks.{walk_weaker, no_round}
-use Rattle.system_set.specs.Pairs.{hierarchy_of, lesser_of, with_self, TellsSelf}
+use Rattle.system_set.specs.Pairs.{hierarchy_of, TellsSelf}
 use Rattle.system_set.proofs.Reaching.{held_place, held_of_step, step_of_held}
 
 -- the pair at the last place puts its item into itself
@@ -14,16 +13,8 @@ record IsLast (orders : List Order) (k : ℕ) (o : Order) : Type 0 where
   low : k < length orders
   here : (d : Order) → get_or orders k d ≡ o
 
-last_step : (orders : List Order) (k : ℕ) (o : Order) → IsLast orders k o → o.first ≡ o.second → IsStep orders o.first o.first
-last_step orders k o last same =
-    let d : Order = record { first = o.first; second = o.first } in
-    (k, last.low, last.here d ∙ ap (λ (x : ℕ). (record { first = o.first; second = x })) (sym same))
-
 first_here : (orders : List Order) (k : ℕ) (o : Order) → IsLast orders k o → (j : ℕ) (d : Order) → j ≡ k → (get_or orders j d).first ≡ o.first
 first_here orders k o last j d same = ap (λ (i : ℕ). (get_or orders i d).first) same ∙ ap (λ (x : Order). x.first) (last.here d)
-
-second_here : (orders : List Order) (k : ℕ) (o : Order) → IsLast orders k o → (j : ℕ) (d : Order) → j ≡ k → (get_or orders j d).second ≡ o.second
-second_here orders k o last j d same = ap (λ (i : ℕ). (get_or orders i d).second) same ∙ ap (λ (x : Order). x.second) (last.here d)
 
 -- ---- what is told of all pairs
 

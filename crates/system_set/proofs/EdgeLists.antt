@@ -61,9 +61,6 @@ member_test h rows are sets item n (inr member) =
 
 -- ---- where orders lead to
 
-pub no_seconds : (sets : ℕ) (rows : List (List Bool)) (m : ℕ) (marks : List Bool) → ((n : ℕ) → is_marked marks n ≡ false) → AreMarkedSeconds sets rows [] m marks
-no_seconds sets rows m marks none = record { tells = λ n. ((λ e. absurd (both_ways _ (none n) e)), (λ second. absurd second.1)) }
-
 seconds_push : (sets : ℕ) (rows : List (List Bool)) (orders : List (ℕ × ℕ)) (m first second : ℕ) (old new : List Bool) → AreMarkedSeconds sets rows orders m old →
     ((n : ℕ) → is_marked new n ≡ ((has_member sets rows first m && eqb second n) || is_marked old n)) → AreMarkedSeconds sets rows (orders ++ (first, second) ∷ []) m new
 seconds_push sets rows orders m first second old new are marked = record {

@@ -2,11 +2,11 @@
 use Rattle.std.proofs.Common.{ℕ, ◌+◌, ◌<◌, ◌≤◌, ◌≡◌, Bool, true, false, ◌⊎◌, inl, inr, List, [], ◌∷◌, ◌++◌, length, take, get_or, Option, Some, None, refl, sym, subst, arith}
 use Rattle.std.specs.List.{All}
 use Rattle.std.proofs.lemmas.List.{get_or_default}
-use Rattle.std.proofs.lemmas.Bool.{false≢true, both_ways}
+use Rattle.std.proofs.lemmas.Bool.{both_ways}
 use Rattle.model.specs.declarations.Walks.{IsWalk}
 use Rattle.model.specs.declarations.Hierarchy.{Hierarchy, IsHeld, Reaches}
 use Rattle.model.specs.declarations.Edges.{IsCrossed, HasNoCrossing, IsCrossing, IsShared, AreApart, IsSharing}
-use Rattle.model.proofs.lists.Firsts.{each_more, each_all, first_here}
+use Rattle.model.proofs.lists.Firsts.{each_more, first_here}
 use Rattle.cycle_search.specs.declared.order.Order.{Order}
 use Rattle.system_set.specs.Pairs.{pair_of, pairs_of, hierarchy_of, IsPlaced, ArePlaced, is_marked, AreSound, IsSpread}
 use Rattle.system_set.specs.Ordered.{TellsReach, TellsCrossed, TellsShared, IsBoth}
@@ -37,25 +37,9 @@ read orders i d low = get_or_default orders i d (get_or orders i d) low
 
 -- ---- crossings
 
-pub crossed_first : (h : Hierarchy) (o : Order) (b : Bool) → b ≡ true → TellsReach h o.first o.second b → TellsCrossed h o (Some o)
-crossed_first h o true is told = (inl refl, told)
-crossed_first h o false is told = absurd (false≢true is)
-
-pub crossed_second : (h : Hierarchy) (o : Order) (b : Bool) → b ≡ true → TellsReach h o.second o.first b → TellsCrossed h o (Some (record { first = o.second; second = o.first }))
-crossed_second h o true is told = (inr refl, told)
-crossed_second h o false is told = absurd (false≢true is)
-
-pub not_crossed : (h : Hierarchy) (o : Order) (a b : Bool) → a ≡ false → b ≡ false → TellsReach h o.first o.second a → TellsReach h o.second o.first b → TellsCrossed h o None
-not_crossed h o true b is also first second = absurd (false≢true (sym is))
-not_crossed h o false true is also first second = absurd (false≢true (sym also))
-not_crossed h o false false is also first second = λ crossed. elim crossed [ inl c ↦ first c | inr c ↦ second c ]
-
 pub crossing_more : (h : Hierarchy) (orders : List Order) (i : ℕ) (d : Order) → i < length orders → HasNoCrossing h (pairs_of (take i orders)) → TellsCrossed h (get_or orders i d) None →
     HasNoCrossing h (pairs_of (take (i + 1) orders))
 crossing_more h orders i d low each none = each_more (λ p. IsCrossed h p → ⊥) pair_of orders i (get_or orders i d) low (read orders i d low) each none
-
-pub crossing_none : (h : Hierarchy) (orders : List Order) (i : ℕ) → length orders ≤ i → HasNoCrossing h (pairs_of (take i orders)) → HasNoCrossing h (pairs_of orders)
-crossing_none h orders i past each = each_all (λ p. IsCrossed h p → ⊥) pair_of orders i past each
 
 is_crossed : (h : Hierarchy) (o p : Order) → (pair_of o ≡ (p.first, p.second)) ⊎ (pair_of o ≡ (p.second, p.first)) → Reaches h p.first p.second → IsCrossed h (pair_of o)
 is_crossed h o p (inl same) reaches = subst (λ q. IsCrossed h q) (sym same) (inl reaches)
@@ -119,9 +103,6 @@ not_sets sets items pairs o placed (inr past) = λ n shared. no_set_reached sets
 pub sharing_more : (h : Hierarchy) (orders : List Order) (i : ℕ) (d : Order) → i < length orders → AreApart h (pairs_of (take i orders)) → TellsShared h (get_or orders i d) None →
     AreApart h (pairs_of (take (i + 1) orders))
 sharing_more h orders i d low each none = each_more (λ p. (n : ℕ) → IsShared h p n → ⊥) pair_of orders i (get_or orders i d) low (read orders i d low) each none
-
-pub sharing_none : (h : Hierarchy) (orders : List Order) (i : ℕ) → length orders ≤ i → AreApart h (pairs_of (take i orders)) → AreApart h (pairs_of orders)
-sharing_none h orders i past each = each_all (λ p. (n : ℕ) → IsShared h p n → ⊥) pair_of orders i past each
 
 pub sharing_some : (h : Hierarchy) (orders : List Order) (i : ℕ) (d : Order) (n : ℕ) → i < length orders → AreApart h (pairs_of (take i orders)) → TellsShared h (get_or orders i d) (Some n) →
     IsSharing h (pairs_of orders) (get_or orders i d).first (get_or orders i d).second n
