@@ -1,14 +1,12 @@
 -- What a seat takes out of the slot that it took last, and what looks add up to.
-use Rattle.std.proofs.Common.{◌≡◌, ◌≢◌, ℕ, suc, ◌+◌, ◌%◌, List, [], ◌∷◌, ◌++◌, length, sym, refl, ap, ◌∙◌, subst, arith, append_assoc, Some, None}
+use Rattle.std.proofs.Common.{◌≡◌, ◌≢◌, ℕ, suc, ◌+◌, List, [], ◌∷◌, ◌++◌, length, sym, refl, ap, ◌∙◌, subst, arith, append_assoc, Some, None}
 use mathlib.Core.Option.{some, some-injective}
 use lib.ListN.{get_elem?}
 use Rattle.atomic_table.specs.Table.{rest}
 use Rattle.atomic_table.proofs.Lists.{at_last}
 use Rattle.job_board.specs.declared.view.View.{View}
 use Rattle.job_board.specs.declared.view.Content.TheVariants.{Job, Outcome}
-use Rattle.job_board.specs.declared.slot_state.SlotState.{SlotState}
-use Rattle.job_board.specs.declared.slot_state.SlotState.TheVariants.{Free, Posted, Taken, Finished}
-use Rattle.job_board.specs.Words.{posted_word, taken_word, finished_word, Shows}
+use Rattle.job_board.specs.Words.{finished_word}
 use Rattle.job_board.specs.Views.{having_read, Missed, MissedAll, NoneFinished}
 use Rattle.job_board.specs.Board.{Slot}
 use Rattle.job_board.specs.Plays.{Seated}
@@ -40,18 +38,6 @@ module _ {J O : Type 0} where
   -- two looks, one after the other
   pub reads_more : (v : View J O) (a b : List (ℕ × ℕ)) → having_read (having_read v a) b ≡ having_read v (a ++ b)
   reads_more v a b = ap {B = View J O} (λ (l : List (ℕ × ℕ)). record v { read = l }) (append_assoc v.read a b)
-
-pub not_posted : (word : ℕ) (state : SlotState) → Shows word state → ((n : ℕ) → state ≢ Posted n) → (n : ℕ) → word ≢ posted_word n
-not_posted word Free s not n = let a : word % 4 ≡ 0 = s in λ e. omega arith
-not_posted word (Posted m) s not n = absurd (not m refl)
-not_posted word (Taken m) s not n = let a : word ≡ taken_word m = s.0 in λ e. omega arith
-not_posted word (Finished m) s not n = let a : word ≡ finished_word m = s.0 in λ e. omega arith
-
-pub not_finished : (word : ℕ) (state : SlotState) → Shows word state → ((n : ℕ) → state ≢ Finished n) → (n : ℕ) → word ≢ finished_word n
-not_finished word Free s not n = let a : word % 4 ≡ 0 = s in λ e. omega arith
-not_finished word (Posted m) s not n = let a : word ≡ posted_word m = s.0 in λ e. omega arith
-not_finished word (Taken m) s not n = let a : word ≡ taken_word m = s.0 in λ e. omega arith
-not_finished word (Finished m) s not n = absurd (not m refl)
 
 -- one slot more was looked at
 pub missed_next : (slot : ℕ) (before last : List (ℕ × ℕ)) → MissedAll slot before → Missed slot last → MissedAll (slot + 1) (before ++ last)
