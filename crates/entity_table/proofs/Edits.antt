@@ -1,5 +1,5 @@
 -- Changes of one element.
-use Rattle.std.proofs.Common.{◌≡◌, ℕ, zero, suc, ◌<◌, ◌≤◌, List, [], ◌∷◌, length, get_or, set, refl, ap, ◌∙◌, arith}
+use Rattle.std.proofs.Common.{◌≡◌, ℕ, zero, suc, ◌<◌, List, [], ◌∷◌, length, get_or, set, refl, ap, ◌∙◌, arith}
 use Rattle.model.specs.Lists.{update_at}
 
 -- a write of what a function makes of the element
@@ -23,12 +23,6 @@ pub update_at-id : {A : Type 0} (f : A → A) (xs : List A) (i : ℕ) (d : A) �
 update_at-id f [] i d h = refl
 update_at-id f (x ∷ xs) zero d h = ap (λ y. y ∷ xs) (h (omega arith))
 update_at-id f (x ∷ xs) (suc i) d h = ap (◌∷◌ x) (update_at-id f xs i d (λ l. h (omega arith)))
-
--- past the end nothing changes
-pub update_at-past : {A : Type 0} (f : A → A) (xs : List A) (i : ℕ) → length xs ≤ i → update_at i f xs ≡ xs
-update_at-past f [] i l = refl
-update_at-past f (x ∷ xs) zero l = absurd (omega arith)
-update_at-past f (x ∷ xs) (suc i) l = ap (◌∷◌ x) (update_at-past f xs i (omega arith))
 
 -- the changed element
 pub get_or-update_at : {A : Type 0} (f : A → A) (xs : List A) (i : ℕ) (d : A) → i < length xs → get_or (update_at i f xs) i d ≡ f (get_or xs i d)

@@ -1,6 +1,5 @@
 -- What an index that is freed makes of the vacant ones.
 use Rattle.std.proofs.Common.{◌≡◌, ℕ, zero, suc, ◌+◌, ◌<◌, ◌≤◌, Bool, true, false, cond, nat_le, List, [], ◌∷◌, length, get_or, refl, ap, sym, ◌∙◌, arith}
-use Rattle.std.specs.List.{AllByRecursion}
 use Rattle.std.proofs.lemmas.Bool.{cond-true, cond-false, cond_both, lt-leb}
 use Rattle.model.specs.Lists.{update_at}
 use Rattle.model.specs.state.State.{Slot, fresh_slot, is_vacant}

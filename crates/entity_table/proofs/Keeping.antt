@@ -2,7 +2,7 @@
 use Rattle.std.proofs.Common.{◌≡◌, ℕ, zero, suc, ◌+◌, ◌<◌, ◌≤◌, Bool, true, false, cond, ◌==◌, ◌&&◌, List, [], ◌∷◌, length, get_or, refl, ap, sym, ◌∙◌, arith}
 use Rattle.std.proofs.lemmas.Bool.{eq-eqb, false≢true}
 use Rattle.model.specs.Lists.{update_at}
-use Rattle.model.specs.state.State.{Slot, fresh_slot, is_vacant, is_granted, is_living}
+use Rattle.model.specs.state.State.{Slot, fresh_slot, is_vacant, is_granted}
 use Rattle.model.specs.state.State.Status.{Vacant, Granted, Living, Retired}
 use Rattle.model.specs.state.Ids.{vacant_indices, has_ids, grant}
 use Rattle.model.specs.state.Commands.{freed, spawned}
@@ -93,9 +93,3 @@ pub granted-within : (xs : List Slot) (i : ℕ) → (slot_at xs i).status ≡ Gr
 granted-within [] i h = cc
 granted-within (x ∷ xs) zero h = omega arith
 granted-within (x ∷ xs) (suc i) h = let r = granted-within xs i h in omega arith
-
--- nor is one that lives
-pub living-within : (xs : List Slot) (i : ℕ) → is_living (slot_at xs i).status ≡ true → i < length xs
-living-within [] i h = absurd (false≢true h)
-living-within (x ∷ xs) zero h = omega arith
-living-within (x ∷ xs) (suc i) h = let r = living-within xs i h in omega arith

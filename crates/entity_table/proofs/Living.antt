@@ -1,13 +1,13 @@
 -- Who lives goes on living, at the same generation, until its index is freed.
-use Rattle.std.proofs.Common.{◌≡◌, ◌≢◌, ℕ, zero, suc, ◌-◌, Bool, true, false, cond, ◌==◌, ◌&&◌, List, [], ◌∷◌, length, sum, refl, sym, ap, ◌∙◌}
+use Rattle.std.proofs.Common.{◌≡◌, ℕ, zero, suc, ◌-◌, Bool, true, false, cond, ◌==◌, ◌&&◌, List, [], ◌∷◌, length, sum, refl, sym, ap, ◌∙◌}
 use Rattle.std.proofs.lemmas.Bool.{and_parts, false≢true}
 use Rattle.model.specs.declared.entities.Entity.{Entity}
 use Rattle.model.specs.Lists.{update_at}
 use Rattle.model.specs.state.State.{Slot, Status, fresh_slot, is_living, is_granted, is_vacant}
 use Rattle.model.specs.state.State.Status.{Vacant, Granted, Living, Retired}
 use Rattle.model.specs.state.Ids.{vacant_indices, with_room, grant, granted_slot, grant_each}
-use Rattle.model.specs.state.Commands.{is_alive, freed, spawned, release}
-use Rattle.model.proofs.lists.Lists.{get_or-append_replicate, get_or-update_at_other}
+use Rattle.model.specs.state.Commands.{is_alive, spawned, release}
+use Rattle.model.proofs.lists.Lists.{get_or-append_replicate}
 use Rattle.entity_table.specs.Ids.{slot_at, lives_at, spawned_all, settled}
 use Rattle.entity_table.proofs.Grants.{first_granted, grant-is}
 use Rattle.entity_table.proofs.Levels.{grant_each-is}

@@ -1,5 +1,5 @@
 -- A release is that of one id after the other, and what stays granted while others are spawned.
-use Rattle.std.proofs.Common.{◌≡◌, ◌≢◌, ℕ, zero, suc, ◌+◌, ◌<◌, Bool, true, false, cond, ◌==◌, ◌&&◌, ◌||◌, ◌⊎◌, inl, inr, List, [], ◌∷◌, ◌++◌, length, get_or, take, refl, ap, sym, ◌∙◌, arith}
+use Rattle.std.proofs.Common.{◌≡◌, ◌≢◌, ℕ, suc, ◌+◌, ◌<◌, Bool, true, false, cond, ◌==◌, ◌&&◌, ◌||◌, ◌⊎◌, inl, inr, List, [], ◌∷◌, ◌++◌, length, get_or, take, refl, ap, sym, ◌∙◌, arith}
 use Rattle.std.specs.Prelude.{All}
 use Rattle.std.proofs.lemmas.Bool.{cond_both, cases_eq, eq-eqb, ne_eqb, or_right, false≢true}
 use Rattle.std.proofs.lemmas.List.{ext_get_or, take_more, get_or_append_left, length-append}
@@ -8,10 +8,10 @@ use Rattle.model.specs.declared.entities.Entity.{Entity}
 use Rattle.model.specs.Lists.{update_at}
 use Rattle.model.specs.state.State.{Slot, fresh_slot, is_granted, last_generation, Status, is_living}
 use Rattle.model.specs.state.State.Status.{Vacant, Granted, Living, Retired}
-use Rattle.model.specs.state.Commands.{freed, spawned, names_index, release}
+use Rattle.model.specs.state.Commands.{freed, names_index, release}
 use Rattle.model.proofs.lists.Lists.{get_or-map_index, length-update_at, get_or-update_at_other}
 use Rattle.model.proofs.shape.Slots.{length-release}
-use Rattle.entity_table.specs.Ids.{slot_at, lives_at, IsGranted, AreApart, spawned_all}
+use Rattle.entity_table.specs.Ids.{slot_at, lives_at, IsGranted, AreApart}
 use Rattle.entity_table.proofs.Edits.{get_or-update_at, update_at-same, update_at-id}
 use Rattle.model.proofs.lists.Bools.{or_false}
 
@@ -112,26 +112,6 @@ living-release ids xs i h = release-at ids xs i ∙ go (is_granted (slot_at xs i
     go : (g : Bool) → is_granted (slot_at xs i).status ≡ g → (n : Bool) → cond (g && n) (freed (slot_at xs i)) (slot_at xs i) ≡ slot_at xs i
     go true e n = absurd (false≢true (sym (granted-lives xs i e) ∙ h))
     go false e n = refl
-
--- who doesn't live once an id is spawned didn't live before
-pub lives_at-spawned : (i generation : ℕ) (xs : List Slot) (j : ℕ) → lives_at (update_at i (spawned generation) xs) j ≡ false → lives_at xs j ≡ false
-lives_at-spawned i generation [] j e = e
-lives_at-spawned zero generation (x ∷ xs) zero e = go (is_granted x.status && (x.generation == generation)) e
-  where
-    go : (b : Bool) → is_living (cond b (let c : Slot = record { generation = x.generation; status = Living; row = [] } in c) x).status ≡ false → is_living x.status ≡ false
-    go true f = absurd (false≢true (sym f))
-    go false f = f
-lives_at-spawned zero generation (x ∷ xs) (suc j) e = e
-lives_at-spawned (suc i) generation (x ∷ xs) zero e = e
-lives_at-spawned (suc i) generation (x ∷ xs) (suc j) e = lives_at-spawned i generation xs j e
-
-pub lives_at-spawned_all : (ids : List Entity) (xs : List Slot) (j : ℕ) → lives_at (spawned_all ids xs) j ≡ false → lives_at xs j ≡ false
-lives_at-spawned_all [] xs j e = e
-lives_at-spawned_all (x ∷ es) xs j e = lives_at-spawned x.index x.generation xs j (lives_at-spawned_all es (update_at x.index (spawned x.generation) xs) j e)
-
-pub length-spawned_all : (ids : List Entity) (xs : List Slot) → length (spawned_all ids xs) ≡ length xs
-length-spawned_all [] xs = refl
-length-spawned_all (x ∷ es) xs = length-spawned_all es (update_at x.index (spawned x.generation) xs) ∙ length-update_at x.index (spawned x.generation) xs
 
 -- ---- what stays granted
 

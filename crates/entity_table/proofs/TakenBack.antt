@@ -1,5 +1,5 @@
 -- What it leaves to take back a grant of one: the book before it.
-use Rattle.std.proofs.Common.{◌≡◌, ℕ, ◌+◌, ◌<◌, ◌≤◌, Bool, true, false, zero, suc, ◌-◌, List, [], ◌∷◌, ◌++◌, length, get_or, set, take, refl, ap, sym, subst, ◌∙◌, arith}
+use Rattle.std.proofs.Common.{◌≡◌, ℕ, ◌+◌, ◌<◌, ◌≤◌, true, false, zero, suc, ◌-◌, List, [], ◌∷◌, ◌++◌, length, get_or, set, take, refl, ap, sym, subst, ◌∙◌, arith}
 use Rattle.std.proofs.lemmas.Bool.{false≢true}
 use Rattle.std.proofs.lemmas.List.{length-append, take_at}
 use Rattle.model.specs.Lists.{update_at, head_or}
@@ -11,11 +11,11 @@ use Rattle.model.specs.state.Ids.{vacant_indices, granted_ids, granted_slot, gra
 use Rattle.model.proofs.lists.Lists.{length-update_at}
 use Rattle.model.proofs.lists.Each.{each-at}
 use Rattle.entity_table.specs.Rising.{Numbers, insert_rising}
-use Rattle.entity_table.specs.Ids.{slot_at, living_count, vacated, IsBook, IsKept, IsCounted}
+use Rattle.entity_table.specs.Ids.{slot_at, living_count, vacated, IsBook, IsCounted}
 use Rattle.entity_table.proofs.Edits.{set-written, get_or-update_at, update_at-id}
 use Rattle.entity_table.proofs.Frees.{vacant_from-more}
 use Rattle.entity_table.proofs.Keeping.{room_for_one}
-use Rattle.entity_table.proofs.Grants.{GrantsLeast, grants_least, GrantsNext, grants_next}
+use Rattle.entity_table.proofs.Grants.{GrantsLeast, grants_least, grants_next}
 use Rattle.entity_table.proofs.Counting.{count-grant}
 
 -- a vacant slot of a book is what it is when it is vacated

@@ -1,6 +1,6 @@
 -- What a call makes of slots with rows, by what it makes of the book without them.
 use Rattle.std.proofs.Common.{◌≡◌, ◌≢◌, ℕ, zero, suc, ◌+◌, ◌-◌, ◌<◌, ◌≤◌, Bool, true, false, cond, ◌==◌, ◌&&◌, nat_le, List, [], ◌∷◌, ◌++◌, length, replicate, refl, ap, ap₂, sym, ◌∙◌, arith}
-use Rattle.std.proofs.lemmas.Bool.{ne_eqb, eq-eqb}
+use Rattle.std.proofs.lemmas.Bool.{eq-eqb}
 use Rattle.model.specs.declared.entities.Entity.{Entity}
 use Rattle.model.specs.Lists.{update_at, with_at}
 use Rattle.model.specs.state.State.{Component, Slot, fresh_slot, is_vacant, is_granted, is_living, last_generation, most_indices}
@@ -169,11 +169,6 @@ freed_row s row = go (s.generation == last_generation)
         ≡ with_row (λ old. []) (cond last (record { generation = s.generation; status = Retired; row = [] }) (record { generation = suc s.generation; status = Vacant; row = [] }))
     go true = refl
     go false = refl
-
-update_at-nothing : (i : ℕ) (slots : List Slot) → update_at i (λ s. s) slots ≡ slots
-update_at-nothing i [] = refl
-update_at-nothing zero (s ∷ ss) = refl
-update_at-nothing (suc i) (s ∷ ss) = ap (◌∷◌ s) (update_at-nothing i ss)
 
 -- ---- a release
 

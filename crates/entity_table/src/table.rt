@@ -87,13 +87,6 @@ impl EntityTable {
         self.living
     }
 
-    /// Whether there are no indices.
-    pub fn is_empty(&self) -> bool
-        ensures { IsTrue result ↔ (self.now ≡ []) }
-    {
-        self.places.is_empty()
-    }
-
     /// The generation of an index.
     pub fn generation(&self, index: u32) -> u32
         ensures { result ≡ (slot_at self.now index).generation }
