@@ -1,5 +1,5 @@
 -- Columns of archetypes: which table has them, what they hold, and what is left where one leaves or comes home.
-use Rattle.std.proofs.Common.{◌≡◌, ℕ, zero, suc, ◌+◌, ◌<◌, ◌≤◌, Bool, true, false, cond, ◌==◌, ◌&&◌, ◌⊎◌, inl, inr, List, [], ◌∷◌, length, get_or, set, take, map, Option, Some, None, option_map, is_some, Result, Ok, Err, OnOk, OnErr, refl, sym, ap, ap₂, subst, ◌∙◌, arith, add-one}
+use Rattle.std.proofs.Common.{◌≡◌, ℕ, zero, suc, ◌+◌, ◌<◌, ◌≤◌, Bool, true, false, cond, ◌==◌, ◌&&◌, ◌⊎◌, inl, inr, List, [], ◌∷◌, length, get_or, set, map, Option, Some, None, option_map, is_some, Result, Ok, Err, OnOk, OnErr, refl, sym, ap, ap₂, subst, ◌∙◌, arith, add-one}
 use Rattle.std.specs.List.{list_all, AllByRecursion}
 use Rattle.std.specs.Prelude.{slice_get}
 use Rattle.std.proofs.Math.Seq.{map-set_same}
@@ -35,13 +35,6 @@ number_step : (b : Bool) (u : TableValue) (us : List TableValue) (n : ℕ) → n
 number_step true u us n h = ap suc h
 number_step false u us n h = h
 
--- so many archetypes come before it
-pub number-take : (T : List TableValue) (t : ℕ) → number_of T t ≡ length (layout_of (take t T))
-number-take [] zero = refl
-number-take [] (suc t) = refl
-number-take (u ∷ us) zero = refl
-number-take (u ∷ us) (suc t) = number_step (is_there u.rows) u (take t us) (number_of us t) (number-take us t)
-
 next_step : (b : Bool) (n m : ℕ) (c : Bool) → m ≡ cond c (suc n) n → cond b (suc m) m ≡ cond c (suc (cond b (suc n) n)) (cond b (suc n) n)
 next_step true n m true h = ap suc h
 next_step true n m false h = ap suc h
@@ -60,10 +53,6 @@ number_next (u ∷ us) zero l = first us
     first : (us : List TableValue) → cond (is_there u.rows) (suc (number_of us zero)) (number_of us zero) ≡ cond (is_there u.rows) (suc zero) zero
     first us = ap (λ n. cond (is_there u.rows) (suc n) n) (none us)
 number_next (u ∷ us) (suc t) l = next_step (is_there u.rows) (number_of us t) (number_of us (suc t)) (is_there (table_at us t).rows) (number_next us t (omega arith))
-
-number_all : (T : List TableValue) → number_of T (length T) ≡ length (layout_of T)
-number_all [] = refl
-number_all (u ∷ us) = number_step (is_there u.rows) u us (number_of us (length us)) (number_all us)
 
 module _ (T : List TableValue) (t left archetype : ℕ) (u : TableValue) (l : t < length T) (is : u ≡ get_or T t u) (so_far : left + number_of T t ≡ archetype) where
   there_is : u ≡ table_at T t

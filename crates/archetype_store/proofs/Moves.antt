@@ -163,14 +163,3 @@ on_err_from (Err e) Q q = q
 pub on_ok_holds : {A E : Type 0} (r : Result A E) (Q : Type 0) → is_err r ≡ false → OnOk r Q → Q
 on_ok_holds (Ok a) Q fine q = q
 on_ok_holds (Err e) Q fine q = absurd (true≢false fine)
-
--- one row after another of one entity
-pub has_row_twice : (A B C : StorageValue) (e : Entity) (first row : List Component) → HasRow A e first B → HasRow B e row C → HasRow A e row C
-has_row_twice A B C e first row h k = record {
-  rows = λ i. k.rows i ∙ ap (cond (i == e.index) row) (h.rows i) ∙ once (i == e.index) row first (row_of A.rows i);
-  holders = λ i. k.holders i ∙ ap (cond (i == e.index) (holder_if row e.generation)) (h.holders i) ∙ once (i == e.index) (holder_if row e.generation) (holder_if first e.generation) (holder_of A.holders i);
-}
-  where
-    once : {X : Type 0} (b : Bool) (x y z : X) → cond b x (cond b y z) ≡ cond b x z
-    once true x y z = refl
-    once false x y z = refl

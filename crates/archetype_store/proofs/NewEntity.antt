@@ -1,5 +1,5 @@
 -- A new entity: the id that a grant of one gives, and what its row makes of the slots.
-use Rattle.std.proofs.Common.{◌≡◌, ℕ, ◌||◌, true, List, [], ◌∷◌, length, get_or, refl, ap, sym, subst, ◌∙◌, arith}
+use Rattle.std.proofs.Common.{◌≡◌, ℕ, ◌||◌, List, [], ◌∷◌, length, get_or, ap, sym, ◌∙◌, arith}
 use Rattle.std.specs.List.{AllByRecursion}
 use Rattle.model.specs.declared.entities.Entity.{Entity}
 use Rattle.model.specs.Lists.{head_or, update_at}
@@ -11,7 +11,7 @@ use Rattle.entity_table.specs.Rows.{with_rows}
 use Rattle.entity_table.proofs.WithRows.{granted_ids-with_rows, grant-with_rows}
 use Rattle.archetype_store.specs.declared.change.Fate.{Fate}
 use Rattle.archetype_store.specs.declared.change.EntityChange.{EntityChange}
-use Rattle.archetype_store.specs.Changes.{book_changed, changed, components_left, slot_left, IsHeldBy}
+use Rattle.archetype_store.specs.Changes.{book_changed, changed, slot_left, IsHeldBy}
 use Rattle.archetype_store.specs.Storage.{StorageValue, row_of, HaveRows}
 use Rattle.archetype_store.specs.Entities.{HasRows}
 use Rattle.archetype_store.proofs.OneChange.{one_changed}

@@ -1,30 +1,17 @@
 -- Insertions, removals and writes of a kind that a row has or hasn't, and the kinds of rows.
-use Rattle.std.proofs.Common.{◌≡◌, ℕ, ◌<◌, Bool, true, false, cond, ◌==◌, ◌||◌, nat_lt, ℤ, List, [], ◌∷◌, map, Option, Some, None, is_some, refl, sym, ap, subst, ◌∙◌, arith}
-use Rattle.std.proofs.lemmas.Bool.{eqb-true}
+use Rattle.std.proofs.Common.{◌≡◌, ℕ, ◌<◌, Bool, true, false, cond, ◌==◌, ◌||◌, nat_lt, List, [], ◌∷◌, map, Option, Some, None, is_some, refl, ap, ◌∙◌, arith}
 use Rattle.std.proofs.lemmas.Bool.Decides.{nat_tests}
 use Rattle.std.specs.List.{AllByRecursion}
 use Rattle.model.specs.Lists.{has}
 use Rattle.model.specs.state.State.{Cell, Component}
-use Rattle.model.specs.state.Rows.{cell_at, IsRising, insert_component, remove_component, new_component, changed_component}
-use Rattle.model.specs.shown.Overlay.{row_after, cell_after}
+use Rattle.model.specs.state.Rows.{cell_at, IsRising, remove_component}
 use Rattle.column_store.specs.declared.stamped.StampedValue.{StampedValue}
 use Rattle.column_store.specs.Cells.{stamped_number}
 use Rattle.column_store.specs.Kinds.{AreBelow}
-use Rattle.model.proofs.shape.Rows.{above-lower as above_lesser}
 use Rattle.column_store.proofs.TheirComponents.{not_same}
-use Rattle.archetype_store.specs.Row.{component_of, only}
+use Rattle.archetype_store.specs.Row.{component_of}
 
 -- ---- a kind that isn't there
-
--- it isn't written
-pub absent-written : (t k : ℕ) (w : List ℤ) (row : List Component) → cell_at row k ≡ None → row_after t (only k w) row ≡ row
-absent-written t k w [] h = refl
-absent-written t k w (c ∷ cs) h = go (c.kind == k) h (absent-written t k w cs)
-  where
-    go : (b : Bool) → cond b (Some c.cell) (cell_at cs k) ≡ None → (cell_at cs k ≡ None → row_after t (only k w) cs ≡ cs) →
-        (let d : Component = record { kind = c.kind; cell = cell_after t (cond b (Some w) None) c.cell } in d) ∷ row_after t (only k w) cs ≡ c ∷ cs
-    go true e more = absurd (cc)
-    go false e more = ap (λ rest. c ∷ rest) (more e)
 
 -- it isn't removed
 pub absent-removed : (k : ℕ) (row : List Component) → cell_at row k ≡ None → remove_component k row ≡ row
@@ -43,24 +30,6 @@ pub above_absent : (k : ℕ) (row : List Component) → AllByRecursion (λ c. k 
 above_absent k [] h = refl
 above_absent k (c ∷ cs) h = ap (λ b. cond b (Some c.cell) (cell_at cs k)) (not_same c.kind k h.0) ∙ above_absent k cs h.1
 
--- ---- a kind that is there
-
--- an insertion of it is a write
-pub there-inserted : (t k : ℕ) (w : List ℤ) (row : List Component) → IsRising row → is_some (cell_at row k) ≡ true → insert_component t k w row ≡ row_after t (only k w) row
-there-inserted t k w [] r h = absurd (cc)
-there-inserted t k w (c ∷ cs) r h = go (c.kind == k) refl (nat_lt k c.kind) refl h (there-inserted t k w cs r.1)
-  where
-    go : (b : Bool) → (c.kind == k) ≡ b → (d : Bool) → nat_lt k c.kind ≡ d → is_some (cond b (Some c.cell) (cell_at cs k)) ≡ true →
-        (is_some (cell_at cs k) ≡ true → insert_component t k w cs ≡ row_after t (only k w) cs) →
-        cond b (changed_component t w c ∷ cs) (cond d (new_component t k w ∷ c ∷ cs) (c ∷ insert_component t k w cs))
-        ≡ (let e : Component = record { kind = c.kind; cell = cell_after t (cond b (Some w) None) c.cell } in e) ∷ row_after t (only k w) cs
-    go true e d f s more = ap (λ rest. changed_component t w c ∷ rest)
-        (sym (absent-written t k w cs (above_absent k cs (subst (λ n. AllByRecursion (λ (x : Component). n < x.kind) cs) (eqb-true c.kind k e) r.0))))
-    go false e true f s more =
-        let none : cell_at cs k ≡ None = above_absent k cs (above_lesser k c.kind (lesser c.kind k f) cs r.0) in
-        absurd (cc (none, s))
-    go false e false f s more = ap (λ rest. c ∷ rest) (more s)
-
 -- ---- kinds
 
 some_step : (b r : Bool) (c : Cell) (o : Option Cell) → r ≡ is_some o → (b || r) ≡ is_some (cond b (Some c) o)
@@ -71,11 +40,6 @@ some_step false r c o h = h
 pub kinds-among : (row : List Component) (k : ℕ) → has k (map (λ (c : Component). c.kind) row) ≡ is_some (cell_at row k)
 kinds-among [] k = refl
 kinds-among (c ∷ cs) k = some_step (c.kind == k) _ c.cell _ (kinds-among cs k)
-
--- a write changes no kind
-pub kinds-written : (t : ℕ) (v : ℕ → Option (List ℤ)) (row : List Component) → map (λ (c : Component). c.kind) (row_after t v row) ≡ map (λ (c : Component). c.kind) row
-kinds-written t v [] = refl
-kinds-written t v (c ∷ cs) = ap (λ ks. c.kind ∷ ks) (kinds-written t v cs)
 
 pub kinds-components : (ss : List StampedValue) → map (λ (c : Component). c.kind) (map component_of ss) ≡ map stamped_number ss
 kinds-components [] = refl

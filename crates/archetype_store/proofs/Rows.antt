@@ -1,6 +1,6 @@
 -- Rows as lists of stamped components.
-use Rattle.std.proofs.Common.{◌≡◌, ℕ, zero, suc, ◌+◌, ◌<◌, ◌≤◌, Bool, true, false, not, cond, ◌==◌, nat_lt, nat_le, ℤ, List, [], ◌∷◌, ◌++◌, length, get_or, map, sym, ◌∙◌, Option, Some, None, refl, ap, arith}
-use Rattle.std.specs.List.{position, position_or_len, insert, remove}
+use Rattle.std.proofs.Common.{◌≡◌, ℕ, zero, suc, ◌+◌, ◌<◌, ◌≤◌, Bool, true, false, not, cond, ◌==◌, nat_lt, nat_le, ℤ, List, [], ◌∷◌, ◌++◌, length, map, sym, ◌∙◌, Option, Some, None, refl, ap, arith}
+use Rattle.std.specs.List.{position, position_or_len, remove}
 use Rattle.std.proofs.lemmas.List.{map-append}
 use Rattle.std.proofs.lemmas.Bool.Decides.{nat_tests}
 use Rattle.kinds.specs.declared.value.Value.{Value}
@@ -42,19 +42,6 @@ insert-none : (t k : ℕ) (w : List ℤ) (xs : List StampedValue) → position_o
 insert-none t k w [] h = refl
 insert-none t k w (x ∷ xs) h = none_step (value_number x.value) k _ (length xs) _ _ _ _ _ h (insert-none t k w xs)
 
-there_step : (n k p i : ℕ) (a b r s : List Component) (x : Component) → suc i ≡ cond (not (nat_le k n)) (1 + p) 0 → (i ≡ p → r ≡ s) → cond (n == k) a (cond (nat_lt k n) b (x ∷ r)) ≡ x ∷ s
-there_step n k p i a b r s x h more = grind (arith, nat_tests)
-
-new_first : (n k p : ℕ) (a b c : List Component) → 0 ≡ cond (not (nat_le k n)) (1 + p) 0 → (n ≡ k → ⊥) → cond (n == k) a (cond (nat_lt k n) b c) ≡ b
-new_first n k p a b c h e = grind (arith, nat_tests)
-
--- a kind that is not there is added in its place
-insert-new : (t k : ℕ) (w : List ℤ) (xs : List StampedValue) (i : ℕ) (d : StampedValue) → i ≡ position_or_len (is_from k) xs → i < length xs → (value_number (get_or xs i d).value ≡ k → ⊥) → insert_component t k w (map component_of xs) ≡ insert (map component_of xs) i (new_component t k w)
-insert-new t k w [] i d h l e = absurd (omega arith)
-insert-new t k w (x ∷ xs) zero d h l e = new_first (value_number x.value) k _ _ _ _ h e
-insert-new t k w (x ∷ xs) (suc i) d h l e =
-    there_step (value_number x.value) k _ i _ _ _ _ _ h (λ at. insert-new t k w xs i d at (omega arith) e)
-
 -- whether a component is of a kind
 abbrev pub is_of : ℕ → StampedValue → Bool
 is_of k s = value_number s.value == k
@@ -74,18 +61,6 @@ find-none k xs h = cell_at-none k xs (position-none (is_of k) xs h)
 
 pub put-none : (t : ℕ) (v : Value) (xs : List StampedValue) → position (is_from (value_number v)) xs ≡ None → map component_of (xs ++ added_at t v ∷ []) ≡ insert_component t (value_number v) (value_words v) (map component_of xs)
 put-none t v xs h = map-append component_of xs (added_at t v ∷ []) ∙ sym (insert-none t (value_number v) (value_words v) xs (position-none _ xs h))
-
-some_cell : (n k : ℕ) (c : Cell) (r : Option Cell) → n ≡ k → cond (n == k) (Some c) r ≡ None → ⊥
-some_cell n k c r e h = grind (arith, nat_tests)
-
-no_cell : (n k : ℕ) (c : Cell) (r : Option Cell) → cond (n == k) (Some c) r ≡ None → r ≡ None
-no_cell n k c r h = grind (arith, nat_tests)
-
--- where a row hasn't the kind no component of it is of the kind
-absent_at : (k : ℕ) (xs : List StampedValue) (i : ℕ) (d : StampedValue) → cell_at (map component_of xs) k ≡ None → i < length xs → value_number (get_or xs i d).value ≡ k → ⊥
-absent_at k [] i d h l = absurd (omega arith)
-absent_at k (x ∷ xs) zero d h l = λ e. some_cell (value_number x.value) k _ _ e h
-absent_at k (x ∷ xs) (suc i) d h l = absent_at k xs i d (no_cell (value_number x.value) k _ _ h) (omega arith)
 
 -- ---- a removal
 

@@ -1,19 +1,17 @@
 -- An id book with rows: what keeps it, and what a change of a row makes of the slots.
-use Rattle.std.proofs.Common.{◌≡◌, ℕ, ◌<◌, ◌≤◌, true, false, ◌==◌, ◌⊎◌, inl, inr, List, [], ◌∷◌, length, Option, Some, None, refl, ap, sym, ◌∙◌, arith}
-use Rattle.std.proofs.lemmas.Bool.{cases_eq, cases_lt, and_parts, eqb-true, false≢true}
+use Rattle.std.proofs.Common.{◌≡◌, ℕ, ◌<◌, ◌≤◌, true, false, ◌==◌, ◌⊎◌, inl, inr, List, [], length, Option, Some, None, refl, ap, sym, ◌∙◌, arith}
+use Rattle.std.proofs.lemmas.Bool.{cases_lt, and_parts, eqb-true, false≢true}
 use Rattle.std.proofs.lemmas.List.{get_or_past}
 use Rattle.model.specs.declared.entities.Entity.{Entity}
-use Rattle.model.specs.Lists.{with_at}
-use Rattle.model.specs.state.State.{Component, Slot, fresh_slot, is_living, is_granted}
+use Rattle.model.specs.state.State.{Slot, fresh_slot, is_living, is_granted}
 use Rattle.model.specs.state.Rows.{row_at}
 use Rattle.model.specs.state.Commands.{is_alive}
 use Rattle.entity_table.specs.Ids.{slot_at, lives_at}
 use Rattle.entity_table.specs.Rows.{with_rows}
 use Rattle.entity_table.proofs.Releases.{granted-lives}
 use Rattle.entity_table.proofs.WithRows.{length-with_rows, row_at-with_rows}
-use Rattle.archetype_store.specs.Storage.{StorageValue, row_of, holder_of, holder_if, IsHolder, HasRow}
+use Rattle.archetype_store.specs.Storage.{StorageValue, row_of, holder_of, IsHolder}
 use Rattle.archetype_store.specs.Entities.{HasRows}
-use Rattle.archetype_store.proofs.Laid.{with_at_same, with_at_apart}
 
 -- ---- who lives
 

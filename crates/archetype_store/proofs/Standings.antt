@@ -6,7 +6,7 @@ use Rattle.model.specs.Lists.{is_there}
 use Rattle.model.specs.declared.entities.Entity.{Entity}
 use Rattle.model.proofs.lists.Lists.{map_index-same}
 use Rattle.column_store.specs.Kinds.{at_kind, AreBelow}
-use Rattle.column_store.specs.Table.{Standing, TableRow, TableValue, is_home, is_owned, is_not_away, is_own_if, standing_of, IsAlike}
+use Rattle.column_store.specs.Table.{Standing, TableRow, TableValue, is_home, is_owned, is_not_away, standing_of, IsAlike}
 use Rattle.column_store.specs.Table.Standing.{Owned, Shared, Away}
 use Rattle.column_store.proofs.Edited.{owned_home}
 use Rattle.std.proofs.lemmas.Bool.{and_parts as both}
@@ -44,15 +44,6 @@ not_away_in (n ∷ ks) k [] h = refl
 not_away_in (n ∷ ks) k (s ∷ ss) h = go (n == k) (both (is_home s) (list_all is_home ss) h).0 (not_away_in ks k ss (both (is_home s) (list_all is_home ss) h).1)
   where
     go : (b : Bool) → is_home s ≡ true → is_not_away (at_kind ks k ss) ≡ true → is_not_away (cond b (Some s) (at_kind ks k ss)) ≡ true
-    go true a c = a
-    go false a c = c
-
-own_in : (ks : List ℕ) (k : ℕ) (ss : List Standing) → list_all is_owned ss ≡ true → is_own_if (at_kind ks k ss) ≡ true
-own_in [] k ss h = refl
-own_in (n ∷ ks) k [] h = refl
-own_in (n ∷ ks) k (s ∷ ss) h = go (n == k) (both (is_owned s) (list_all is_owned ss) h).0 (own_in ks k ss (both (is_owned s) (list_all is_owned ss) h).1)
-  where
-    go : (b : Bool) → is_owned s ≡ true → is_own_if (at_kind ks k ss) ≡ true → is_own_if (cond b (Some s) (at_kind ks k ss)) ≡ true
     go true a c = a
     go false a c = c
 

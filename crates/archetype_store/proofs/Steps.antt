@@ -1,20 +1,19 @@
 -- What the steps of one row come to: insertions, removals and writes of a kind.
-use Rattle.std.proofs.Common.{◌≡◌, ◌≢◌, ℕ, ◌<◌, true, false, ℤ, List, [], ◌∷◌, length, set, map, Option, Some, None, option_map, is_some, refl, sym, ap, subst, ◌∙◌}
+use Rattle.std.proofs.Common.{◌≡◌, ◌≢◌, ℕ, ◌<◌, true, false, List, [], ◌∷◌, length, set, map, Option, Some, None, option_map, is_some, refl, sym, ap, subst, ◌∙◌}
 use Rattle.model.specs.Lists.{is_there}
 use Rattle.model.specs.state.State.{Component}
 use Rattle.model.specs.declared.entities.Entity.{Entity}
-use Rattle.model.specs.shown.Overlay.{row_after}
 use Rattle.column_store.specs.declared.stamped.StampedValue.{StampedValue}
 use Rattle.column_store.specs.Cells.{stamped_number}
 use Rattle.column_store.specs.Table.{TableValue}
 use Rattle.archetype_store.specs.declared.locations.EntityLocation.{EntityLocation}
-use Rattle.archetype_store.specs.Row.{component_of, only}
+use Rattle.archetype_store.specs.Row.{component_of}
 use Rattle.archetype_store.specs.Tables.{kinds_at, held_at, row_or_none, IsHeldNow}
 use Rattle.archetype_store.specs.Storage.{archetypes_of, place_of, row_in, holder_in, IsHolder, AreArchetypes, HasRow}
-use Rattle.archetype_store.proofs.Laid.{moved_whole, moved_row, somewhere, kinds_there, row_there}
+use Rattle.archetype_store.proofs.Laid.{moved_whole, moved_row, somewhere, kinds_there}
 use Rattle.archetype_store.proofs.Moves.{moved_joined, moved_cleared, moved_written, row_placed}
 use Rattle.archetype_store.proofs.Known.{placed_within}
-use Rattle.archetype_store.proofs.RowEdits.{kinds-written, kinds-components}
+use Rattle.archetype_store.proofs.RowEdits.{kinds-components}
 
 -- ---- a row that is laid
 

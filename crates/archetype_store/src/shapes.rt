@@ -2,13 +2,10 @@
 
 ghost use Rattle.std.specs.Prelude.{◌≡◌, ◌<◌, map, get_or, None, IfOk, OnOk};
 ghost use Rattle.std.specs.List.{AllByRecursion};
-ghost use Rattle.kinds.specs.Kind.{kind_number};
-ghost use Rattle.archetype_store.specs.LivingSets.{set_number};
 ghost use Rattle.archetype_store.specs.Shapes.{shape_number, fits, fitting_tables, numbered, kept_seen, noted, HasRoom};
 
 use crate::kind_sets::number_of;
 use column_store::Table;
-use kinds::Kind;
 use std::alloc::{AllocError, Global};
 
 /// How many words there are.
@@ -24,17 +21,6 @@ pub struct Shape {
 }
 
 impl Shape {
-    /// The shape that requires these kinds and excludes those.
-    pub fn of_kinds(required: &[Kind], excluded: &[Kind]) -> Self
-        ensures required { result.required ≡ set_number (map kind_number required.now) }
-        ensures excluded { result.excluded ≡ set_number (map kind_number excluded.now) }
-    {
-        Shape {
-            required: number_of(required),
-            excluded: number_of(excluded),
-        }
-    }
-
     /// The number of the shape.
     pub fn number(self) -> usize
         ensures { result ≡ shape_number self }

@@ -1,4 +1,4 @@
-use Rattle.std.proofs.Common.{◌≡◌, [], None, Some, is_some, map, refl, sym, ap, ap₂, subst, ◌∙◌, arith}
+use Rattle.std.proofs.Common.{◌≡◌, None, Some, is_some, map, refl, sym, ap, ap₂, subst, ◌∙◌}
 use Rattle.std.proofs.lemmas.List.{get_or_read}
 use Rattle.model.specs.Lists.{is_there}
 use Rattle.column_store.specs.Cells.{stamped_number}
@@ -8,10 +8,8 @@ use Rattle.archetype_store.specs.RowNumbers.{number_of_row}
 use Rattle.archetype_store.specs.Tables.{entity_in_row, kinds_at, IsHeldNow}
 use Rattle.archetype_store.specs.Storage.{archetypes_of, place_of, row_in, holder_in, IsHolder, HasRow}
 use Rattle.archetype_store.proofs.Known.{row_there, number_within, known_kept, one_kept}
-use Rattle.archetype_store.proofs.Laid.{kinds_kept, with_at_same}
 use Rattle.archetype_store.proofs.Moves.{has_row_kept}
 use Rattle.archetype_store.proofs.Moving.{arrives_here, arrives_there, arrives_moves, some_there, others_kept, rooms_same, rooms_once, rooms_joined}
-use Rattle.archetype_store.proofs.RowMoves.{as_many_tables}
 use Rattle.archetype_store.proofs.Standings.{owned_kept}
 use Rattle.archetype_store.proofs.Steps.{renewed}
 use Rattle.archetype_store.proofs.row_moves.move_row.Goals as goal
