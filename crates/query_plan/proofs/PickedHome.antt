@@ -5,10 +5,9 @@ use Rattle.std.proofs.lemmas.Bool.{and_parts, or_cases, or_left, or_right, eqb-t
 use Rattle.model.specs.Lists.{has, is_number}
 use Rattle.model.proofs.lists.Each.{each-append}
 use Rattle.archetype_store.proofs.KindsHome.{prove_kinds_home}
-use Rattle.model.specs.state.State.{Slot}
 use Rattle.model.specs.access.Query.{Term, matches, admits, touches, touched, writes}
 use Rattle.model.specs.access.Query.Term.{Entity, Read, Mut, Opt, With, Without, Added, Changed, AnyOf}
-use Rattle.archetype_store.specs.Layout.{Archetype, archetype_at, column_home, AreAllHome, IsLayoutOf}
+use Rattle.archetype_store.specs.Layout.{Archetype, archetype_at, column_home}
 use Rattle.query_plan.specs.Picks.{Picked, picked_in, picked_of, picked_from}
 use Rattle.query_plan.specs.Standing.{IsFilterHome, ArePickedHome, PicksTellFilters, HomeTellsPicks}
 
@@ -118,9 +117,3 @@ pub prove_picks_home : HomeTellsPicks
 prove_picks_home slots layout query laid home =
     each_from query (λ m j. column_home (archetype_at layout m) j ≡ Some true) 0 layout
     (λ n k there. subst (λ j. column_home (archetype_at layout j) k ≡ Some true) (let e : n ≡ 0 + n = omega arith in e) (prove_kinds_home slots layout n k laid home there))
-
--- where all columns are at home, so are those that some queries pick
-pub home_tells_each : (slots : List Slot) (layout : List Archetype) (queries : List (List Term)) → IsLayoutOf slots layout → AreAllHome layout →
-    AllByRecursion (λ query. ArePickedHome query layout) queries
-home_tells_each slots layout [] laid home = tt
-home_tells_each slots layout (query ∷ queries) laid home = (prove_picks_home slots layout query laid home, home_tells_each slots layout queries laid home)

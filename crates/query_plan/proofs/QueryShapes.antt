@@ -130,17 +130,6 @@ required_small (query_term.Added k) = bit_small k
 required_small (query_term.Changed k) = bit_small k
 required_small (query_term.Or alternatives) = nothing_small
 
-excluded_small : (t : QueryTerm) → bit_named (excluded (term_of t)) < 1048576
-excluded_small query_term.Entity = nothing_small
-excluded_small (query_term.Read k) = nothing_small
-excluded_small (query_term.Mut k) = nothing_small
-excluded_small (query_term.Opt k) = nothing_small
-excluded_small (query_term.With k) = nothing_small
-excluded_small (query_term.Without k) = bit_small k
-excluded_small (query_term.Added k) = nothing_small
-excluded_small (query_term.Changed k) = nothing_small
-excluded_small (query_term.Or alternatives) = nothing_small
-
 word_small : (named : Term → Option ℕ) → ((t : QueryTerm) → bit_named (named (term_of t)) < 1048576) → (ts : List QueryTerm) → word_by named (map term_of ts) < 1048576
 word_small named each [] = omega arith
 word_small named each (t ∷ ts) = or_lt 20 (bit_named (named (term_of t))) (word_by named (map term_of ts)) (each t) (word_small named each ts)
