@@ -248,9 +248,6 @@ scheduled_more conditions coverage built x new are same = record {
   ];
 }
 
-pub scheduled_none : (coverage : List (List ℕ)) → AreScheduledConditions [] coverage []
-scheduled_none coverage = record { long = refl; each = λ c low. absurd (omega arith) }
-
 -- what was read of a list of lists is what it has there
 pub read_coverage : (coverage : List (List ℕ)) (k : ℕ) (x : List ℕ) → k < length coverage → x ≡ get_or coverage k x → x ≡ get_or coverage k []
 read_coverage coverage k x low is = is ∙ sym (get_or_default coverage k [] x low)

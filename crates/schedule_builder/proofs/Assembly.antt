@@ -63,9 +63,6 @@ has_of_place (o ∷ orders) m n (suc k) l e =
 
 -- ---- edges
 
-no_system : ScheduledSystem
-no_system = record { params = no_params; predecessors = []; level = 0 }
-
 edge_inside : {levels : List ℕ} (orders : List Order) (systems : List DeclaredSystem) (built : List ScheduledSystem) → AreScheduled orders levels systems built → (m n : ℕ) → n < length systems → has_edge (schedule_of built []) m n ≡ has m (items_before orders n)
 edge_inside orders systems built a m n l = ap (λ (s : ScheduledSystem). has m s.predecessors) (a.each n l)
 

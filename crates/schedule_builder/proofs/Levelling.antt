@@ -239,9 +239,6 @@ order_with {conditions} {silences} systems syncs order s = record {
 
 -- ---- one more system with its level
 
-pub levelled_none : (levels : List ℕ) → AreLevelledBy levels [] []
-levelled_none levels = record { long = refl; each = λ n l. absurd (omega arith) }
-
 pub levelled_more : (levels : List ℕ) (systems built : List ScheduledSystem) (s new : ScheduledSystem) → AreLevelledBy levels systems built → new ≡ record s { level = get_or levels (length built) 0 } → AreLevelledBy levels (systems ++ s ∷ []) (built ++ new ∷ [])
 levelled_more levels systems built s new a same =
     let nothing : ScheduledSystem = record { params = no_params; predecessors = []; level = 0 } in

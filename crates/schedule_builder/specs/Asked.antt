@@ -7,10 +7,9 @@ use Rattle.model.specs.access.Condition.{Condition, queries_of}
 use Rattle.model.specs.access.Condition.Condition.{RunOnce}
 use Rattle.model.specs.declarations.Declarations.{Declared, declared_conditions}
 use Rattle.model.specs.declarations.ScheduleOrder.{IsSilence}
-use Rattle.model.specs.steps.Schedule.{Schedule, ScheduledCondition}
+use Rattle.model.specs.steps.Schedule.{ScheduledCondition}
 use Rattle.cycle_search.specs.declared.order.Order.{Order}
 use Rattle.system_set.specs.Pairs.{pairs_of}
-use Rattle.schedule_builder.specs.ScheduleOrder.{schedule_with}
 
 -- the conditions of all items, in order, and the item of each
 abbrev pub asked_of : Declared → List Condition

@@ -1,6 +1,6 @@
 // A built schedule, and what it says of its systems.
 
-ghost use Rattle.std.specs.Prelude.{◌≡◌, ◌<◌, ℕ, [], None, length, get_or, IfOk};
+ghost use Rattle.std.specs.Prelude.{◌≡◌, ◌<◌, ℕ, length, get_or, IfOk};
 ghost use Rattle.model.specs.access.SelfConflict.{ConflictWithin};
 ghost use Rattle.model.specs.steps.Schedule.{system_at, condition_at, params_of, level_of, is_silenced};
 ghost use Rattle.model.specs.steps.Built.{IsBuilt};
@@ -135,35 +135,6 @@ impl Built {
             waits,
             sizes,
         })
-    }
-
-    /// The schedule with no system and one sync point.
-    #[tactic(auto, unfolding(crate::specs::Counts::HasCounts, crate::specs::Conditions::HasConditionRows))]
-    pub fn empty(alloc: Global) -> Self
-        ensures { result
-            ≡ record {
-              systems = [];
-              conditions = [];
-              syncs = 1;
-              order = [];
-              silences = [];
-              sets = None;
-            } }
-    {
-        Built {
-            systems: Vec::new(alloc),
-            conditions: Vec::new(alloc),
-            syncs: 1,
-            order: Vec::new(alloc),
-            silences: Vec::new(alloc),
-            asked_by: Vec::new(alloc),
-            clashes: Vec::new(alloc),
-            before: Vec::new(alloc),
-            rivals: Vec::new(alloc),
-            after: Vec::new(alloc),
-            waits: Vec::new(alloc),
-            sizes: Vec::new(alloc),
-        }
     }
 
     /// What holds of every built schedule.
