@@ -1,6 +1,6 @@
 // Events of some kinds, a list for each.
 
-ghost use Rattle.std.specs.Prelude.{◌≡◌, ◌↔◌, true, false, IsErrOf, ◌==◌, ◌++◌, [], ◌∷◌, get_or, map, IfOk, IsTrue, OnOk, OnErr};
+ghost use Rattle.std.specs.Prelude.{◌≡◌, ◌↔◌, true, false, IsErrOf, ◌==◌, ◌++◌, [], ◌∷◌, get_or, map, IsTrue, OnOk, OnErr};
 ghost use Rattle.std.specs.List.{list_all};
 ghost use Rattle.kinds.specs.Res.{event_number};
 ghost use Rattle.model.specs.Lists.{has, update_at};
