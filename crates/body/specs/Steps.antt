@@ -1,7 +1,7 @@
 -- What the steps of a run do to the parts of a state.
 use Rattle.std.specs.Prelude.{ℕ, ◌≤◌, ◌≡◌, List, length}
 use Rattle.std.specs.List.{AllByRecursion}
-use Rattle.archetype_store.specs.Layout.{Archetype, AreAllHome}
+use Rattle.archetype_store.specs.Layout.{Archetype}
 use Rattle.archetype_store.specs.Store.{StoreValue}
 use Rattle.model.specs.Lists.{update_at}
 use Rattle.kinds.specs.Components.{widths}
@@ -116,12 +116,6 @@ pub record AreInTime (clock : ℕ) (systems conditions : List Memory) : Type 0 w
 pub record ArePartsOf (clock : ℕ) (systems conditions : List Memory) (passed_over : ℕ) : Type 0 where
   pub in_time : AreInTime clock systems conditions
   pub counted : passed_over ≤ most_passed_over
-
--- what holds of a state that isn't in a run: that of its parts, and all columns are at home
-pub record IsState (world : StoreValue) (systems conditions : List Memory) (passed_over : ℕ) : Type 0 where
-  pub last_runs : AreInTime world.state.clock systems conditions
-  pub counted : passed_over ≤ most_passed_over
-  pub home : AreAllHome world.layout
 
 -- what holds of every state of an engine, whatever the schedule
 pub record HasShape (state : State) : Type 0 where

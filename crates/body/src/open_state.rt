@@ -23,14 +23,14 @@ ghost use Rattle.query_plan.specs.Standing.{ArePickedHome};
 ghost use Rattle.body.specs.Columns.{Column};
 ghost use Rattle.body.specs.Lent.{AreLent, lent_in, with_away, with_back};
 ghost use Rattle.body.specs.Out.{IsWrittenBy, AreOut};
-ghost use Rattle.body.specs.Steps.{AreInTime, HasShape, asked_at, at_clock, counted_state, laid, noted, store_of, target_in, with_slots_in, with_target};
+ghost use Rattle.body.specs.Steps.{AreInTime, HasShape, asked_at, at_clock, laid, noted, store_of, target_in, with_slots_in, with_target};
 
 mod input;
 
 use crate::condition_answer::ask;
 use crate::memory::Memory;
 use crate::room::Room;
-use crate::state::{Memories, State};
+use crate::state::State;
 use crate::view::View;
 use access_set::Params;
 use archetype_store::World;
@@ -54,12 +54,13 @@ const MOST_PASSED_OVER: u64 = 1 << 62;
 /// speak of, in which a column that is away has the components with which it left, and beside it how components are laid out. No last run is
 /// above the clock, and each memory has its registers.
 pub struct OpenState {
-    world: World,
-    events: Events,
-    systems: Vec<Memory>,
-    conditions: Vec<Memory>,
-    passed_over: u64,
-    room: Room,
+    pub(crate) world: World,
+    pub(crate) events: Events,
+    pub(crate) systems: Vec<Memory>,
+    pub(crate) conditions: Vec<Memory>,
+    pub(crate) passed_over: u64,
+    // For the next starts.
+    pub(crate) room: Room,
 }
 
 // One function drops it wherever it is let go.
@@ -92,57 +93,12 @@ impl Model for OpenState {
 }
 
 impl OpenState {
-    // The state of a world with these events and memories.
-    pub(crate) fn of_parts(
-        world: World,
-        events: Events,
-        systems: Vec<Memory>,
-        conditions: Vec<Memory>,
-        passed_over: u64,
-        room: Room,
-    ) -> Self
-        requires in_time { AreInTime world.state.clock systems.items conditions.items }
-        requires counted { passed_over ≤ most_passed_over }
-        ensures { result
-            ≡ record {
-              state = counted_state world.state events systems.items conditions.items
-                  passed_over;
-              layout = world.layout;
-            } }
-    {
-        OpenState {
-            world,
-            events,
-            systems,
-            conditions,
-            passed_over,
-            room,
-        }
-    }
-
     /// The state when all columns have come home.
     pub fn into_state(self) -> State
         requires { AreAllHome self.layout }
         ensures { result ≡ self.state }
     {
-        let OpenState {
-            world,
-            events,
-            systems,
-            conditions,
-            passed_over,
-            room,
-        } = self;
-        State::of_parts(
-            world,
-            events,
-            Memories {
-                systems,
-                conditions,
-            },
-            passed_over,
-            room,
-        )
+        State { open: self }
     }
 
     /// What holds of every state: there aren't too many indices, the layout is that of the world, and no last run is above the clock.

@@ -1,16 +1,20 @@
 // The state of an engine: the world, the kept events, and what systems and conditions remember.
 
-ghost use Rattle.std.specs.Prelude.{◌≡◌, ◌<◌, ◌≤◌, [], length, replicate, get_or, IfOk};
-ghost use Rattle.model.specs.state.State.{no_memory, event_count, empty_queue, most_passed_over};
+ghost use Rattle.std.specs.Prelude.{◌≡◌, ◌<◌, [], true, length, replicate, get_or, IfErr, IfOk, OnErr, OnOk};
+ghost use Rattle.model.specs.sessions.Inputs.{after_input, can_input, input_id};
+ghost use Rattle.model.specs.state.State.{no_memory, event_count, empty_queue};
 ghost use Rattle.archetype_store.specs.Layout.{AreAllHome};
 ghost use Rattle.archetype_store.specs.Store.{empty_world};
-ghost use Rattle.body.specs.Steps.{AreInTime, HasShape, counted_state, state_of};
+ghost use Rattle.body.specs.Inputs.{input_of, IsPutFault};
+ghost use Rattle.body.specs.Steps.{AreInTime, HasShape, state_of};
 
+use crate::input::{Input, PutFault};
 use crate::memory::{Memory, copied_memories};
 use crate::open_state::OpenState;
 use crate::room::Room;
 use archetype_store::World;
 use change_ticks::Clock;
+use entity_table::Entity;
 use event_buffers::Events;
 use query::Query;
 use query_plan::shape_of;
@@ -28,40 +32,20 @@ pub struct Memories {
 
 /// The state of an engine. Contracts see the state that the definitions speak of. No last run is above the
 /// clock, each memory has its registers, and all columns are at home.
+#[derive(Drop)]
 pub struct State {
-    world: World,
-    events: Events,
-    systems: Vec<Memory>,
-    conditions: Vec<Memory>,
-    passed_over: u64,
-    // For the next starts.
-    room: Room,
-}
-
-// One function drops it wherever it is let go.
-impl Drop for State {
-    fn drop(self) {
-        let State {
-            world: _,
-            events: _,
-            systems: _,
-            conditions: _,
-            passed_over: _,
-            room: _,
-        } = self;
-    }
+    pub(crate) open: OpenState,
 }
 
 impl Model for State {
     ghost use Rattle.model.specs.state.State.{State as ModelState};
-    ghost use Rattle.body.specs.Steps.{IsState, counted_state};
+    ghost use Rattle.archetype_store.specs.Layout.{AreAllHome};
 
     ghost Value = { ModelState };
 
-    ghost view = { λ s. counted_state s.world.state s.events s.systems.items s.conditions.items
-        s.passed_over };
+    ghost view = { λ s. s.open.state };
 
-    ghost invariant = { λ s. IsState s.world s.systems.items s.conditions.items s.passed_over };
+    ghost invariant = { λ s. AreAllHome s.open.layout };
 }
 
 impl State {
@@ -70,12 +54,14 @@ impl State {
         ensures { result ≡ state_of (empty_world 1) (replicate event_count empty_queue) [] [] }
     {
         State {
-            world: World::empty(alloc, Clock::at(1)),
-            events: Events::new(alloc),
-            systems: Vec::new(alloc),
-            conditions: Vec::new(alloc),
-            passed_over: 0,
-            room: Room::new(alloc),
+            open: OpenState {
+                world: World::empty(alloc, Clock::at(1)),
+                events: Events::new(alloc),
+                systems: Vec::new(alloc),
+                conditions: Vec::new(alloc),
+                passed_over: 0,
+                room: Room::new(alloc),
+            },
         }
     }
 
@@ -93,42 +79,14 @@ impl State {
         } = memories;
         let room = Room::new(*systems.allocator());
         State {
-            world,
-            events,
-            systems,
-            conditions,
-            passed_over: 0,
-            room,
-        }
-    }
-
-    // The state of these parts.
-    pub(crate) fn of_parts(
-        world: World,
-        events: Events,
-        memories: Memories,
-        passed_over: u64,
-        room: Room,
-    ) -> Self
-        requires last_runs { AreInTime world.state.clock memories.systems.items
-            memories.conditions.items }
-        requires home { AreAllHome world.layout }
-        requires counted { passed_over ≤ most_passed_over }
-        ensures { result
-            ≡ counted_state world.state events memories.systems.items memories.conditions.items
-            passed_over }
-    {
-        let Memories {
-            systems,
-            conditions,
-        } = memories;
-        State {
-            world,
-            events,
-            systems,
-            conditions,
-            passed_over,
-            room,
+            open: OpenState {
+                world,
+                events,
+                systems,
+                conditions,
+                passed_over: 0,
+                room,
+            },
         }
     }
 
@@ -137,17 +95,20 @@ impl State {
     pub fn copy(&self, alloc: Global) -> Result<Self, AllocError>
         ensures { IfOk result (λ copy. copy ≡ self.now) }
     {
-        let world = self.world.copy(alloc)?;
-        let events = self.events.copy(alloc)?;
-        let systems = copied_memories(alloc, &self.systems)?;
-        let conditions = copied_memories(alloc, &self.conditions)?;
+        let open = &self.open;
+        let world = open.world.copy(alloc)?;
+        let events = open.events.copy(alloc)?;
+        let systems = copied_memories(alloc, &open.systems)?;
+        let conditions = copied_memories(alloc, &open.conditions)?;
         Ok(State {
-            world,
-            events,
-            systems,
-            conditions,
-            passed_over: self.passed_over,
-            room: Room::new(alloc),
+            open: OpenState {
+                world,
+                events,
+                systems,
+                conditions,
+                passed_over: open.passed_over,
+                room: Room::new(alloc),
+            },
         })
     }
 
@@ -156,22 +117,27 @@ impl State {
         ensures state { result.state ≡ self }
         ensures home { AreAllHome result.layout }
     {
-        let State {
-            world,
-            events,
-            systems,
-            conditions,
-            passed_over,
-            room,
-        } = self;
-        OpenState::of_parts(world, events, systems, conditions, passed_over, room)
+        self.open
+    }
+
+    /// Takes an input at the next tick, which becomes the clock, and gives the id of a new entity. `NoTick` at the last tick, else
+    /// `NoEventNumber` where an event gets no number, `NoIds` where no index is left; `Memory` where an allocation fails. After an error nothing
+    /// has changed.
+    pub fn input(&mut self, alloc: Global, input: &Input) -> Result<Option<Entity>, PutFault>
+        ensures can { OnOk result (can_input (input_of input.now) self.old ≡ true) }
+        ensures id { IfOk result (λ id. id ≡ input_id (input_of input.now) self.old) }
+        ensures state { OnOk result (self.new ≡ after_input (input_of input.now) self.old) }
+        ensures refused { IfErr result (IsPutFault (input_of input.now) self.old) }
+        ensures err { OnErr result (self.new ≡ self.old) }
+    {
+        self.open.input(alloc, input)
     }
 
     /// Keeps the shape of a query: from now on its plans look at the archetypes that fit it alone. Nothing that contracts see changes.
     pub fn keep_shape(&mut self, query: &Query) -> Result<(), AllocError>
         ensures { self.new ≡ self.old }
     {
-        self.world.register(&shape_of(query))?;
+        self.open.world.register(&shape_of(query))?;
         Ok(())
     }
 
@@ -179,9 +145,7 @@ impl State {
     pub fn prove_shape(&self)
         ensures { HasShape self.now }
     {
-        let _ = self.world.now();
-        self.events.prove_law();
-        self.events.prove_shape();
+        self.open.prove_shape();
     }
 
     /// The world.
@@ -189,35 +153,35 @@ impl State {
         ensures world { result.now.state ≡ self.now.world }
         ensures home { AreAllHome result.now.layout }
     {
-        &self.world
+        &self.open.world
     }
 
     /// The kept events.
     pub fn events(&self) -> &Events
         ensures { result.now ≡ self.now.events }
     {
-        &self.events
+        &self.open.events
     }
 
     /// How many systems there are.
     pub fn systems(&self) -> usize
         ensures { result ≡ length self.now.systems }
     {
-        self.systems.len()
+        self.open.systems.len()
     }
 
     /// How many conditions there are.
     pub fn conditions(&self) -> usize
         ensures { result ≡ length self.now.conditions }
     {
-        self.conditions.len()
+        self.open.conditions.len()
     }
 
     /// How many commands were passed over, at most 2^62.
     pub fn passed_over(&self) -> u64
         ensures { result ≡ self.now.passed_over }
     {
-        self.passed_over
+        self.open.passed_over
     }
 
     /// What a system remembers.
@@ -225,7 +189,7 @@ impl State {
         requires { system < length self.now.systems }
         ensures { result.now ≡ get_or self.now.systems system no_memory }
     {
-        &self.systems[system]
+        &self.open.systems[system]
     }
 
     /// What a condition remembers.
@@ -233,6 +197,6 @@ impl State {
         requires { condition < length self.now.conditions }
         ensures { result.now ≡ get_or self.now.conditions condition no_memory }
     {
-        &self.conditions[condition]
+        &self.open.conditions[condition]
     }
 }
