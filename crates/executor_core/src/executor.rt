@@ -14,6 +14,8 @@ ghost use Rattle.executor_core.specs.Stands.{Stands, AreMeetings, IsCleared, IsP
 ghost use Rattle.executor_core.specs.Judges.{AllOver, NoneMeets, NoneClashes, IsReleased, IsOpen, IsKnown};
 ghost use Rattle.schedule_builder.specs.Conditions.{IsCovering, IsRisingListing};
 
+pub mod room;
+
 use crate::counts::{Counts, begin_again};
 use crate::meetings::{clashes_of, renew_clashed, renew_met, rivals_of};
 use model::{KindSets, Ready, Step, StepFault};

@@ -9,5 +9,6 @@ mod offer;
 pub mod trace;
 
 pub use executor::Core;
+pub use executor::room::CoreRoom;
 pub use model::steps::{Ready, Step, StepFault};
 pub use trace::Trace;
