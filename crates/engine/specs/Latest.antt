@@ -1,24 +1,21 @@
--- What a run adds to the traces of those before it, and what its end leaves to the next one.
-use Rattle.std.specs.Prelude.{ℕ, ◌≡◌, ◌++◌, true, List, [], ◌∷◌, is_some, Option, None, IfSome}
+-- What a run adds to the traces of those before it, and what its end leaves to the next one, in the same call or a later one.
+use Rattle.std.specs.Prelude.{ℕ, ◌≡◌, ◌++◌, true, List, [], ◌∷◌, is_some}
 use Rattle.model.specs.steps.Schedule.{Schedule, Recorded, recording}
 use Rattle.model.specs.shown.Outcome.{BodyMeaning}
 use Rattle.model.specs.state.State.{Slot, State}
 use Rattle.model.specs.runs.WideRuns.{IsWideRun}
 use Rattle.model.specs.state.KindSets.{kind_sets_of}
 use Rattle.executor_core.specs.Stands.{AreMeetings, Stand}
-use Rattle.executor_core.specs.Traces.{latest_list}
 
--- the kind sets recorded last by the last of some runs, where there is one that records them
-abbrev pub latest_in : List Recorded → Option (List ℕ)
-latest_in [] = None
-latest_in (r ∷ []) = latest_list r
-latest_in (r ∷ next ∷ rs) = latest_in (next ∷ rs)
-
--- after these runs of a schedule: a core knows who meets whom in the kind sets that they recorded last, and these are those of the slots
-pub record IsFollowing (core : Stand) (s : Schedule) (before : List Recorded) (slots : List Slot) : Type 0 where
+-- a core for a schedule, which knows who meets whom in these kind sets
+pub record IsCoreFor (core : Stand) (s : Schedule) (sets : List ℕ) : Type 0 where
   pub schedule : core.schedule ≡ s
-  pub meetings : IfSome (latest_in before) (AreMeetings core)
-  pub there : IfSome (latest_in before) (λ numbers. numbers ≡ kind_sets_of slots)
+  pub meetings : AreMeetings core sets
+
+-- between the runs of a schedule: a core knows who meets whom in these kind sets, and they are those of the slots
+pub record IsFollowing (core : Stand) (s : Schedule) (sets : List ℕ) (slots : List Slot) : Type 0 where
+  pub knows : IsCoreFor core s sets
+  pub there : sets ≡ kind_sets_of slots
 
 -- one run more, with room for so many systems at once: it leads from one state to another, and its trace, which records kind sets, stands behind the traces
 -- of the runs before

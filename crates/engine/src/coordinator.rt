@@ -1,6 +1,6 @@
 // The turns of a run: what is ready is done while there is room for one more running system, else a job is waited for.
 
-ghost use Rattle.std.specs.Prelude.{◌≡◌, ◌<◌, ◌∷◌, ◌++◌, [], ℕ, List, length, is_some, option_map, true, false, Err, OnOk, IfErr, IfOk, IfSome, IsTrue, Option, Some};
+ghost use Rattle.std.specs.Prelude.{◌≡◌, ◌<◌, ◌∷◌, ◌++◌, [], ℕ, List, length, is_some, true, false, Err, OnOk, IfErr, IfOk, IfSome, IsTrue, Option, Some};
 ghost use Rattle.std.specs.List.{AllByRecursion};
 ghost use Rattle.model.specs.declared.steps.Step.{Step as Action};
 ghost use Rattle.model.specs.state.State.{State};
@@ -11,9 +11,9 @@ ghost use Rattle.model.specs.declared.steps.Step.TheVariants.{Finish, Start as B
 ghost use Rattle.model.specs.declared.steps.Ready.TheVariants as ready;
 ghost use Rattle.model.specs.steps.Lawful.{May};
 ghost use Rattle.model.specs.runs.WideRuns.{AreWideRuns, WideStops, IsWideStopped};
-ghost use Rattle.executor_core.specs.Stands.{AreMeetings, Stands};
+ghost use Rattle.executor_core.specs.Stands.{Stands};
 ghost use Rattle.executor_core.specs.Traces.{latest_list, with_list};
-ghost use Rattle.engine.specs.Latest.{IsFollowing, IsOneMoreRun, latest_in};
+ghost use Rattle.engine.specs.Latest.{IsCoreFor, IsFollowing, IsOneMoreRun};
 ghost use Rattle.engine.specs.Jobs.{AreKept};
 ghost use Rattle.engine.specs.Meanings.{meanings, AreFit};
 ghost use Rattle.engine.specs.Next.{IsAtRest, IsNext, IsOfferedIn, IsTaken, KeepsNext, StopsNext, StopsOffered, TakesOffered};
@@ -24,6 +24,7 @@ ghost use Rattle.engine.specs.declared.stop.Stop.TheVariants as stop;
 
 use crate::bodies::Bodies;
 use crate::jobs::{Jobs, bring_home, finish, run_here, start};
+use crate::recording::{Recording, RestingCore, begin};
 use crate::run_state::RunState;
 use crate::stop::Stop;
 use crate::turn::{Done, Turn, next_turn};
@@ -34,24 +35,19 @@ use schedule_builder::Built;
 use std::alloc::{AllocError, Global};
 use worker_pool::Mode;
 
-// The traces of the runs of a schedule, and the core that has taken their steps. It stands in a box: a loop that holds it by itself is dear to check.
-#[derive(Drop)]
-struct Recording<'a> {
-    core: Box<Core<'a>>,
-    traces: Vec<Trace>,
-}
-
 /// The runs of a schedule, one after the other. After a stop all jobs have come back, and their bodies are in their places.
 pub(crate) fn run_times<'s, M: Mode<'s>, B: Body + 's>(
     built: &Built,
     run: &mut RunState,
     jobs: &mut Jobs<B>,
+    resting: &mut Option<RestingCore>,
     times: u32,
     mode: &M,
 ) -> Result<Vec<Trace>, Stop>
     requires rest { IsAtRest B.meaning B.fits built.now jobs.old.bodies run.old.deferred
         run.old.state }
     requires empty { jobs.old.pool ≡ [] }
+    requires core { IfSome resting.old (λ it. IsCoreFor it.room built.now it.sets) }
     ensures count { IfOk result (λ traces. length traces.items ≡ times) }
     ensures records { IfOk result (λ traces. AllByRecursion (λ r. is_some r.sets ≡ true)
         traces.items) }
@@ -60,6 +56,8 @@ pub(crate) fn run_times<'s, M: Mode<'s>, B: Body + 's>(
         run.new.state.state) }
     ensures rest { OnOk result (IsAtRest B.meaning B.fits built.now jobs.new.bodies run.new.deferred
         run.new.state) }
+    ensures empty { OnOk result (jobs.new.pool ≡ []) }
+    ensures core { IfSome resting.new (λ it. IsCoreFor it.room built.now it.sets) }
     ensures stopped { IfErr result (StopsBy (M.has_scope mode.now) (IsWideStopped (M.width mode.now)
         built.now (meanings B.meaning built.now jobs.old.bodies) times
         run.old.state.state)) }
@@ -69,10 +67,7 @@ pub(crate) fn run_times<'s, M: Mode<'s>, B: Body + 's>(
     ensures fit { (result ≡ Err stop.NoWorker → IsTrue (M.stands mode.now))
         → AreFit B.fits built.now jobs.new.bodies }
 {
-    let mut recording = Recording {
-        core: boxed_core(run.alloc, built)?,
-        traces: Vec::new(run.alloc),
-    };
+    let mut recording = Recording::open(run.alloc, built, &run.state, resting.take())?;
     for _run in 0..times {
         match one_run(built, run, jobs, &mut recording, mode) {
             Ok(()) => {}
@@ -82,25 +77,9 @@ pub(crate) fn run_times<'s, M: Mode<'s>, B: Body + 's>(
             }
         }
     }
-    Ok(recording.traces)
-}
-
-// A core that has accepted nothing, in a box.
-fn boxed_core<'a>(alloc: Global, built: &'a Built) -> Result<Box<Core<'a>>, AllocError>
-    ensures { IfOk result (λ core. core.value.schedule ≡ built.now) }
-{
-    let core = Core::new(alloc, built)?;
-    Ok(Box::new(alloc, core)?)
-}
-
-// The kind sets recorded last by the last of these traces.
-fn latest_of(traces: &[Trace]) -> Option<&KindSets>
-    ensures { option_map (λ sets. sets.now) result ≡ latest_in traces.now }
-{
-    match traces.last() {
-        Some(trace) => trace.latest(),
-        None => None,
-    }
+    let (traces, core) = recording.end();
+    *resting = Some(core);
+    Ok(traces)
 }
 
 // One run more: in a loop of its own where there is one thread and nobody else has a hand in it.
@@ -114,13 +93,13 @@ fn one_run<'s, M: Mode<'s>, B: Body + 's>(
     requires rest { IsAtRest B.meaning B.fits built.now jobs.old.bodies run.old.deferred
         run.old.state }
     requires empty { jobs.old.pool ≡ [] }
-    requires following { IsFollowing recording.old.core.value built.now recording.old.traces.items
+    requires following { IsFollowing recording.old.core.value built.now recording.old.sets
         run.old.state.state.world.slots }
     ensures ran { OnOk result (IsOneMoreRun (M.width mode.now) built.now
         (meanings B.meaning built.now jobs.old.bodies) run.old.state.state
         recording.old.traces.items run.new.state.state recording.new.traces.items) }
     ensures following { OnOk result (IsFollowing recording.new.core.value built.now
-        recording.new.traces.items run.new.state.state.world.slots) }
+        recording.new.sets run.new.state.state.world.slots) }
     ensures rest { OnOk result (IsAtRest B.meaning B.fits built.now jobs.new.bodies run.new.deferred
         run.new.state) }
     ensures empty { OnOk result (jobs.new.pool ≡ []) }
@@ -147,13 +126,13 @@ fn run_turns<'s, M: Mode<'s>, B: Body + 's>(
     requires rest { IsAtRest B.meaning B.fits built.now jobs.old.bodies run.old.deferred
         run.old.state }
     requires empty { jobs.old.pool ≡ [] }
-    requires following { IsFollowing recording.old.core.value built.now recording.old.traces.items
+    requires following { IsFollowing recording.old.core.value built.now recording.old.sets
         run.old.state.state.world.slots }
     ensures ran { OnOk result (IsOneMoreRun (M.width mode.now) built.now
         (meanings B.meaning built.now jobs.old.bodies) run.old.state.state
         recording.old.traces.items run.new.state.state recording.new.traces.items) }
     ensures following { OnOk result (IsFollowing recording.new.core.value built.now
-        recording.new.traces.items run.new.state.state.world.slots) }
+        recording.new.sets run.new.state.state.world.slots) }
     ensures rest { OnOk result (IsAtRest B.meaning B.fits built.now jobs.new.bodies run.new.deferred
         run.new.state) }
     ensures empty { OnOk result (jobs.new.pool ≡ []) }
@@ -168,43 +147,14 @@ fn run_turns<'s, M: Mode<'s>, B: Body + 's>(
     run.deferred.clear();
     run.open(built)?;
     let core = &mut *recording.core;
-    let latest = latest_of(&recording.traces);
-    let mut trace = begin(built, run.alloc, core, latest, &run.state)?;
+    let mut trace = begin(run.alloc, built, core, &recording.sets)?;
     while let Some(turn) = next_turn(core, jobs.pool.count(), width) {
         let done = do_turn(built, run, jobs, mode, turn)?;
         take(run.alloc, core, &mut trace, &run.state, done)?;
     }
     run.state.prove_law();
-    recording.traces.push(trace)?;
+    recording.add(run.alloc, trace)?;
     Ok(())
-}
-
-// Begins the core again for a run that opens on this state, and what is recorded of it. The kind sets that the run before recorded last are
-// those at the opening, so the core keeps who meets whom; the world is asked only where no run was before.
-fn begin(
-    built: &Built,
-    alloc: Global,
-    core: &mut Core<'_>,
-    latest: Option<&KindSets>,
-    state: &OpenState,
-) -> Result<Trace, AllocError>
-    requires meetings { IfSome latest (λ sets. AreMeetings core.old sets.now) }
-    requires there { IfSome latest (λ sets. sets.now ≡ kind_sets_of state.now.state.world.slots) }
-    ensures steps { IfOk result (λ trace. trace.steps ≡ []) }
-    ensures sets { IfOk result (λ trace. trace.sets
-        ≡ Some (kind_sets_of state.now.state.world.slots ∷ [])) }
-    ensures stands { OnOk result (Stands core.new
-        (Some (kind_sets_of state.now.state.world.slots ∷ [])) []) }
-    ensures schedule { core.new.schedule ≡ core.old.schedule }
-{
-    let Some(sets) = latest else {
-        let opening = state.kind_sets(alloc)?;
-        core.begin_in(alloc, &opening)?;
-        return Trace::of_run(alloc, built, opening);
-    };
-    let opening = sets.copy(alloc)?;
-    core.begin_same(alloc)?;
-    Trace::of_run(alloc, built, opening)
 }
 
 // Does what is next, and gives the step that it is.
@@ -456,13 +406,13 @@ fn run_alone<B: Body>(
     recording: &mut Recording<'_>,
 ) -> Result<(), Stop>
     requires rest { IsAtRest B.meaning B.fits built.now bodies.old run.old.deferred run.old.state }
-    requires following { IsFollowing recording.old.core.value built.now recording.old.traces.items
+    requires following { IsFollowing recording.old.core.value built.now recording.old.sets
         run.old.state.state.world.slots }
     ensures ran { OnOk result (IsOneMoreRun 1 built.now (meanings B.meaning built.now bodies.old)
         run.old.state.state recording.old.traces.items run.new.state.state
         recording.new.traces.items) }
     ensures following { OnOk result (IsFollowing recording.new.core.value built.now
-        recording.new.traces.items run.new.state.state.world.slots) }
+        recording.new.sets run.new.state.state.world.slots) }
     ensures rest { OnOk result (IsAtRest B.meaning B.fits built.now bodies.new run.new.deferred
         run.new.state) }
     ensures stopped { IfErr result (StopsBy false (WideStops 1 built.now
@@ -473,12 +423,11 @@ fn run_alone<B: Body>(
     run.deferred.clear();
     run.open(built)?;
     let core = &mut *recording.core;
-    let latest = latest_of(&recording.traces);
-    let mut trace = begin(built, run.alloc, core, latest, &run.state)?;
+    let mut trace = begin(run.alloc, built, core, &recording.sets)?;
     while let Some(offer) = core.ready() {
         turn_alone(built, run, bodies, core, &mut trace, offer)?;
     }
     run.state.prove_law();
-    recording.traces.push(trace)?;
+    recording.add(run.alloc, trace)?;
     Ok(())
 }

@@ -10,10 +10,12 @@ mod sessions;
 
 use crate::bodies::Bodies;
 use crate::coordinator::run_times;
+use crate::crew::Crew;
 use crate::deferred::Deferred;
 use crate::faults::{NewFault, RunFault};
 use crate::fitting::check_parts;
 use crate::jobs::Jobs;
+use crate::recording::RestingCore;
 use crate::run_state::RunState;
 use crate::shapes::keep_shapes;
 use body::{Body, State};
@@ -23,7 +25,7 @@ use schedule_builder::Built;
 use std::alloc::Global;
 use std::marker::Model;
 use std::mem;
-use worker_pool::{Mode, Pool};
+use worker_pool::Mode;
 
 /// A built schedule with a body for each system, and the state. Contracts see the schedule, the bodies, the state, and whether
 /// the engine is spoiled, as it is once a run stopped by a fault. A body that was lost with a thread is none.
@@ -32,6 +34,8 @@ pub struct Engine<B: Body> {
     bodies: Bodies<B>,
     state: State,
     deferred: Deferred,
+    // The core of the last run, unless it stopped.
+    resting: Option<RestingCore>,
     spoiled: bool,
 }
 
@@ -43,13 +47,15 @@ impl<B: Body> Drop for Engine<B> {
             bodies: _,
             state: _,
             deferred: _,
+            resting: _,
             spoiled: _,
         } = self;
     }
 }
 
 impl<B: Body> Model for Engine<B> {
-    ghost use Rattle.std.specs.Prelude.{◌≡◌, false};
+    ghost use Rattle.std.specs.Prelude.{◌≡◌, false, IfSome};
+    ghost use Rattle.engine.specs.Latest.{IsCoreFor};
     ghost use Rattle.engine.specs.EngineValue.{EngineValue, engine_code};
     ghost use Rattle.engine.specs.Deferred.{IsDeferredFor};
     ghost use Rattle.engine.specs.Meanings.{meanings, AllKeepWithin, Suits};
@@ -65,10 +71,11 @@ impl<B: Body> Model for Engine<B> {
       spoiled = e.spoiled;
     } };
 
-    ghost invariant = { λ e. e.spoiled ≡ false
+    ghost invariant = { λ e. (e.spoiled ≡ false
         → Suits B.fits e.built e.bodies e.state
         × AllKeepWithin e.built (meanings B.meaning e.built e.bodies)
-        × IsDeferredFor e.built e.deferred };
+        × IsDeferredFor e.built e.deferred)
+        × IfSome e.resting (λ it. IsCoreFor it.room e.built it.sets) };
 }
 
 impl<B: Body> Engine<B> {
@@ -100,6 +107,7 @@ impl<B: Body> Engine<B> {
             bodies,
             state,
             deferred,
+            resting: None,
             spoiled: false,
         })
     }
@@ -135,7 +143,84 @@ impl<B: Body> Engine<B> {
         ensures fit { (result ≡ Err RunFault.NoWorker → IsTrue (M.stands mode.now))
             → self.old.spoiled ≡ false → AreFit B.fits self.old.schedule self.new.bodies }
     {
-        run_engine(self, alloc, times, mode)
+        let mut crew = Crew::new();
+        let traces = self.run_by(alloc, times, mode, &mut crew);
+        crew.end(mode);
+        traces
+    }
+
+    /// Runs the schedule as `run` does, with the workers of a crew, who stand afterwards: the next call by it starts none anew.
+    pub fn run_by<'s, M: Mode<'s>>(
+        &mut self,
+        alloc: Global,
+        times: u32,
+        mode: &M,
+        crew: &mut Crew<B>,
+    ) -> Result<Vec<Trace>, RunFault>
+    where
+        B: 's,
+        ensures ran { IfOk result (λ traces. RunsAs (M.width mode.now) self.old.schedule
+            (meanings B.meaning self.old.schedule self.old.bodies) times self.old.state
+            self.new.state traces.items) }
+        ensures stopped { IfErr result (StopsAs (M.has_scope mode.now) (M.width mode.now)
+            self.old.schedule (meanings B.meaning self.old.schedule self.old.bodies) times
+            self.old.state) }
+        ensures spoiled { IsErrOf result RunFault.Spoiled ↔ IsTrue self.old.spoiled }
+        ensures spoils { IsTrue self.new.spoiled ↔ IsErr result }
+        ensures unchanged { result ≡ Err RunFault.Spoiled → self.new ≡ self.old }
+        ensures schedule { self.new.schedule ≡ self.old.schedule }
+        ensures meanings { (result ≡ Err RunFault.NoWorker → IsTrue (M.stands mode.now))
+            → meanings B.meaning self.old.schedule self.new.bodies
+            ≡ meanings B.meaning self.old.schedule self.old.bodies }
+        ensures fit { (result ≡ Err RunFault.NoWorker → IsTrue (M.stands mode.now))
+            → self.old.spoiled ≡ false → AreFit B.fits self.old.schedule self.new.bodies }
+    {
+        if self.spoiled {
+            return Err(RunFault::Spoiled);
+        }
+        self.built.prove_law();
+        self.state.prove_shape();
+        self.spoiled = true;
+        let Ok(pool) = crew.take(alloc, mode) else {
+            return Err(RunFault::Memory);
+        };
+        let state = mem::replace(&mut self.state, State::empty(alloc)).into_open();
+        let deferred = mem::replace(&mut self.deferred, Deferred::none(alloc));
+        let bodies = mem::replace(&mut self.bodies, Bodies::none(alloc));
+        let mut run = RunState {
+            alloc,
+            state,
+            deferred,
+        };
+        let mut jobs = Jobs {
+            bodies,
+            pool,
+            started: 0,
+        };
+        let traces = run_times(
+            &self.built,
+            &mut run,
+            &mut jobs,
+            &mut self.resting,
+            times,
+            mode,
+        );
+        runs_are_sound();
+        wide_of_one_is_single();
+        single_runs_are_one();
+        self.bodies = jobs.bodies;
+        let traces = match traces {
+            Ok(traces) => traces,
+            Err(stop) => {
+                jobs.pool.end(mode);
+                return Err(RunFault::from(stop));
+            }
+        };
+        crew.keep(mode, jobs.pool);
+        self.state = run.state.into_state();
+        self.deferred = run.deferred;
+        self.spoiled = false;
+        Ok(traces)
     }
 
     /// The schedule.
@@ -151,62 +236,4 @@ impl<B: Body> Engine<B> {
     {
         &self.state
     }
-}
-
-// The runs of an engine.
-fn run_engine<'s, M: Mode<'s>, B: Body + 's>(
-    engine: &mut Engine<B>,
-    alloc: Global,
-    times: u32,
-    mode: &M,
-) -> Result<Vec<Trace>, RunFault>
-    ensures ran { IfOk result (λ traces. RunsAs (M.width mode.now) engine.old.schedule
-        (meanings B.meaning engine.old.schedule engine.old.bodies) times engine.old.state
-        engine.new.state traces.items) }
-    ensures stopped { IfErr result (StopsAs (M.has_scope mode.now) (M.width mode.now)
-        engine.old.schedule (meanings B.meaning engine.old.schedule engine.old.bodies) times
-        engine.old.state) }
-    ensures spoiled { IsErrOf result RunFault.Spoiled ↔ IsTrue engine.old.spoiled }
-    ensures spoils { IsTrue engine.new.spoiled ↔ IsErr result }
-    ensures unchanged { result ≡ Err RunFault.Spoiled → engine.new ≡ engine.old }
-    ensures schedule { engine.new.schedule ≡ engine.old.schedule }
-    ensures meanings { (result ≡ Err RunFault.NoWorker → IsTrue (M.stands mode.now))
-        → meanings B.meaning engine.old.schedule engine.new.bodies
-        ≡ meanings B.meaning engine.old.schedule engine.old.bodies }
-    ensures fit { (result ≡ Err RunFault.NoWorker → IsTrue (M.stands mode.now))
-        → engine.old.spoiled ≡ false → AreFit B.fits engine.old.schedule engine.new.bodies }
-{
-    if engine.spoiled {
-        return Err(RunFault::Spoiled);
-    }
-    engine.built.prove_law();
-    engine.state.prove_shape();
-    engine.spoiled = true;
-    let Ok(pool) = Pool::begin(alloc, mode.standing()) else {
-        return Err(RunFault::Memory);
-    };
-    let state = mem::replace(&mut engine.state, State::empty(alloc)).into_open();
-    let deferred = mem::replace(&mut engine.deferred, Deferred::none(alloc));
-    let bodies = mem::replace(&mut engine.bodies, Bodies::none(alloc));
-    let mut run = RunState {
-        alloc,
-        state,
-        deferred,
-    };
-    let mut jobs = Jobs {
-        bodies,
-        pool,
-        started: 0,
-    };
-    let traces = run_times(&engine.built, &mut run, &mut jobs, times, mode);
-    runs_are_sound();
-    wide_of_one_is_single();
-    single_runs_are_one();
-    jobs.pool.end(mode);
-    engine.bodies = jobs.bodies;
-    let traces = traces?;
-    engine.state = run.state.into_state();
-    engine.deferred = run.deferred;
-    engine.spoiled = false;
-    Ok(traces)
 }

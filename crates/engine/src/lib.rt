@@ -3,6 +3,7 @@
 
 mod bodies;
 mod coordinator;
+pub mod crew;
 pub mod deferred;
 pub mod engine;
 pub mod faults;
@@ -10,11 +11,13 @@ pub mod first_state;
 pub mod fitting;
 mod granting;
 mod jobs;
+mod recording;
 pub mod run_state;
 mod shapes;
 pub mod stop;
 pub mod turn;
 
+pub use crew::Crew;
 pub use deferred::Deferred;
 pub use engine::Engine;
 pub use faults::{InputFault, NewFault, RunFault, SetFault};

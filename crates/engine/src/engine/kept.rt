@@ -7,7 +7,7 @@ ghost use Rattle.engine.specs.RunsAs.{RunsAs};
 ghost use Rattle.engine.specs.Stops.{StopsAs};
 
 use crate::deferred::Deferred;
-use crate::engine::{Engine, run_engine};
+use crate::engine::Engine;
 use crate::faults::RunFault;
 use body::state::State;
 use body::system_body::Body;
@@ -54,7 +54,7 @@ impl<B: Body> Engine<B> {
         }
         let spare = self.spare_parts(alloc)?;
         let keeping = mode.keeping();
-        match run_engine(self, alloc, times, &keeping) {
+        match self.run(alloc, times, &keeping) {
             Ok(traces) => Ok(traces),
             Err(fault) => {
                 self.put_back(spare);

@@ -15,7 +15,6 @@ use crate::shapes::keep_shapes;
 use body::{Body, Input, State};
 use entity_table::Entity;
 use std::alloc::Global;
-use std::mem;
 
 impl<B: Body> Engine<B> {
     /// Puts an input in between runs, at the next tick, and gives the id of a new entity. `ClockSpent` where there is no next tick, or no next
@@ -33,10 +32,7 @@ impl<B: Body> Engine<B> {
         if self.spoiled {
             return Err(InputFault::Spoiled);
         }
-        let mut state = mem::replace(&mut self.state, State::empty(alloc)).into_open();
-        let answer = state.input(alloc, input);
-        self.state = state.into_state();
-        Ok(answer?)
+        Ok(self.state.input(alloc, input)?)
     }
 
     /// Sets another state, also on an engine that is spoiled, which is mended by it. `Count` where the state doesn't have the memories of the
@@ -74,6 +70,7 @@ impl<B: Body> Engine<B> {
             bodies: _bodies,
             state,
             deferred: _deferred,
+            resting: _resting,
             spoiled: _,
         } = self;
         state

@@ -1,30 +1,21 @@
-use Rattle.std.proofs.Common.{ℕ, ◌≡◌, ◌∷◌, List, [], Option, true, false, length, Some, refl, sym, ap, ◌∙◌, subst}
+use Rattle.std.proofs.Common.{◌∷◌, false, length, sym, ap, ◌∙◌, subst}
 use Rattle.model.specs.declared.steps.Ready.{Ready}
-use Rattle.model.specs.declared.steps.Step.{Step}
-use Rattle.model.specs.state.State.{State}
-use Rattle.model.specs.declared.steps.Step.TheVariants.{Cond, Start as Begin, Finish, Sync}
-use Rattle.model.specs.Lists.{IsIn}
-use Rattle.model.specs.shown.Outcome.{BodyMeaning}
-use Rattle.model.specs.runs.Causes.{interleaved_cause_of}
+use Rattle.model.specs.declared.steps.Step.TheVariants.{Cond, Sync}
 use Rattle.model.specs.runs.WideRuns.{WideStops}
 use Rattle.model.specs.state.KindSets.{kind_sets_of}
 use Rattle.model.specs.steps.Schedule.{recording}
-use Rattle.model.specs.steps.Lawful.{runs}
-use Rattle.model.proofs.serial.Recording.{answer-recording, interleaved_cause-recording, interleaved_step-recording}
+use Rattle.model.proofs.serial.Recording.{answer-recording, interleaved_cause-recording}
 use Rattle.body.specs.Steps.{StateValue}
-use Rattle.worker_pool.specs.JobOut.{JobOut}
-use Rattle.engine.specs.declared.turn.Turn.{Turn}
 use Rattle.engine.specs.Deferred.{DeferredValue, run_with}
-use Rattle.engine.specs.Jobs.{woven, AreKept, InHand}
+use Rattle.engine.specs.Jobs.{woven, InHand}
 use Rattle.engine.specs.Next.{StopsOffered}
-use Rattle.engine.specs.Stage.{Stage, IsTake, IsTurn}
+use Rattle.engine.specs.Stage.{Stage, IsTake}
 use Rattle.engine.specs.Stops.{CannotSync, LacksTick}
-use Rattle.engine.proofs.Placing.{placed_kept}
-use Rattle.engine.proofs.Staging.{stage_start, stage_ask, stage_skip, stage_finish, running_there, none_out, stops_start, stops_ask, stops_sync, stops_finish, stops_plain}
+use Rattle.engine.proofs.Staging.{stage_ask, stage_skip, none_out, stops_ask, stops_sync, stops_plain}
 use Rattle.engine.proofs.Recorded.{listed_synced, stage_synced}
 use Rattle.engine.proofs.Remembering.{memories_synced}
-use Rattle.engine.proofs.Stops.{stops_among, stops_up}
-use Rattle.engine.proofs.Turns.{start_allowed, ask_allowed, sync_fresh, placed_asked, placed_synced, in_hand_none, in_hand_asked, home_end}
+use Rattle.engine.proofs.Stops.{stops_among}
+use Rattle.engine.proofs.Turns.{ask_allowed, sync_fresh, placed_asked, placed_synced, in_hand_none, in_hand_asked, home_end}
 use Rattle.engine.proofs.coordinator.do_plain.Goals as goal
 use Rattle.model.proofs.lists.Results.{handed_on}
 

@@ -1,28 +1,22 @@
-use Rattle.std.proofs.Common.{◌≡◌, ◌∷◌, List, true, false, length, Some, refl, sym, ap, ◌∙◌, subst}
+use Rattle.std.proofs.Common.{◌≡◌, List, true, false, length, Some, refl, sym, ◌∙◌, subst}
 use Rattle.model.specs.declared.steps.Ready.{Ready}
-use Rattle.model.specs.declared.steps.Step.TheVariants.{Cond, Start as Begin, Finish, Sync}
+use Rattle.model.specs.declared.steps.Step.TheVariants.{Start as Begin, Finish}
 use Rattle.model.specs.Lists.{IsIn}
 use Rattle.model.specs.shown.Outcome.{BodyMeaning}
 use Rattle.model.specs.runs.Causes.{interleaved_cause_of}
 use Rattle.model.specs.runs.WideRuns.{WideStops}
-use Rattle.model.specs.state.KindSets.{kind_sets_of}
 use Rattle.model.specs.steps.Schedule.{recording}
 use Rattle.model.specs.steps.Lawful.{runs}
-use Rattle.model.proofs.serial.Recording.{answer-recording, interleaved_cause-recording, interleaved_step-recording}
-use Rattle.body.specs.Steps.{StateValue}
+use Rattle.model.proofs.serial.Recording.{interleaved_cause-recording, interleaved_step-recording}
 use Rattle.worker_pool.specs.JobOut.{JobOut}
 use Rattle.engine.specs.declared.turn.Turn.{Turn}
-use Rattle.engine.specs.Deferred.{DeferredValue, run_with}
-use Rattle.engine.specs.Jobs.{woven, AreKept, InHand}
+use Rattle.engine.specs.Jobs.{woven, AreKept}
 use Rattle.engine.specs.Next.{KeepsNext, StopsNext}
-use Rattle.engine.specs.Stage.{Stage, IsTake, IsTurn}
-use Rattle.engine.specs.Stops.{CannotSync, LacksTick}
+use Rattle.engine.specs.Stage.{IsTake, IsTurn}
 use Rattle.engine.proofs.Placing.{placed_kept}
-use Rattle.engine.proofs.Staging.{stage_start, stage_ask, stage_skip, stage_finish, running_there, none_out, stops_start, stops_ask, stops_sync, stops_finish, stops_plain}
-use Rattle.engine.proofs.Recorded.{listed_synced, stage_synced}
-use Rattle.engine.proofs.Remembering.{memories_synced}
-use Rattle.engine.proofs.Stops.{none_ok, stops_among, stops_up}
-use Rattle.engine.proofs.Turns.{start_allowed, ask_allowed, sync_fresh, placed_asked, placed_synced, in_hand_none, in_hand_asked, home_end}
+use Rattle.engine.proofs.Staging.{stage_start, stage_finish, running_there, stops_start, stops_finish, stops_plain}
+use Rattle.engine.proofs.Stops.{none_ok, stops_up}
+use Rattle.engine.proofs.Turns.{start_allowed}
 use Rattle.engine.proofs.coordinator.do_turn.Goals as goal
 use Rattle.model.proofs.lists.Results.{handed_on}
 

@@ -14,6 +14,6 @@ invariant-loop-run g l = record {
   ran : AreWideRuns (g.M.Mode.width l.mode) l.built (meanings g.B.Body.meaning l.built l.fn.jobs.bodies) l.fn.run.state.state l.recording.traces.items l.run.state.state;
   rest : IsAtRest g.B.Body.meaning g.B.Body.fits l.built l.jobs.bodies l.run.deferred l.run.state;
   empty : l.jobs.pool ≡ [];
-  following : IsFollowing l.recording.core.value l.built l.recording.traces.items l.run.state.state.world.slots;
+  following : IsFollowing l.recording.core.value l.built l.recording.sets l.run.state.state.world.slots;
   meant : meanings g.B.Body.meaning l.built l.jobs.bodies ≡ meanings g.B.Body.meaning l.built l.fn.jobs.bodies;
 }

@@ -1,6 +1,6 @@
 use Rattle.std.proofs.Common.{ℕ, ◌≡◌, List, [], ◌∷◌, Option, Some, is_some, length, refl, sym, ap, ◌∙◌, subst, subst₂, arith}
 use Rattle.model.specs.declared.steps.Step.{Step}
-use Rattle.model.specs.steps.Schedule.{Recorded, Schedule, recording}
+use Rattle.model.specs.steps.Schedule.{Schedule, recording}
 use Rattle.model.specs.steps.Lawful.{IsComplete, May}
 use Rattle.model.specs.runs.Meaning.{AreSetsOf}
 use Rattle.model.specs.runs.WideRuns.{WideStops}
@@ -15,12 +15,9 @@ use Rattle.engine.proofs.Staging.{stage_open, stage_end, stops_open, none_there,
 use Rattle.engine.proofs.Stops.{lost_or_kept, stops_among}
 use Rattle.engine.proofs.LevelGrants.{no_elements}
 use Rattle.engine.proofs.Turns.{turn_next, placed_open, in_hand_none, rest_end}
-use Rattle.std.proofs.Common.{Bor, IfSome}
-use Rattle.model.specs.declared.kind_sets.KindSets.{KindSets}
 use Rattle.executor_core.specs.Stands.{AreMeetings}
-use Rattle.model.specs.state.KindSets.{kind_sets_of}
-use Rattle.engine.specs.Latest.{IsFollowing, latest_in}
-use Rattle.engine.proofs.Ended.{following_more, latest_there, of-mapped}
+use Rattle.engine.specs.Latest.{IsFollowing}
+use Rattle.engine.proofs.Ended.{following_on, latest_there}
 use Rattle.engine.proofs.coordinator.run_turns.Goals as goal
 use Rattle.model.proofs.lists.Results.{handed_on}
 
@@ -69,10 +66,10 @@ loop-turn-init g c =
     let opened = c.in_ok-open.ensures in
     let trace = c.in_ok-trace.trace in
     let made = c.in_ok-trace.ensures in
-    let opening = kind_sets_of later.state.state.world.slots in
-    let told : AreSetsOf (Some opening) (Some (woven {B = g.row.B.Denot} later.state.state later.deferred [])) = refl in
+    let opening = c.args.recording.now.sets in
+    let told : AreSetsOf (Some opening) (Some (woven {B = g.row.B.Denot} later.state.state later.deferred [])) = c.requires.following.there ∙ sym opened.sets in
     record {
-      schedule = c.begin.ensures.schedule ∙ ap (λ (x : Stand). x.schedule) c.deref_mut-core.ensures.value ∙ c.requires.following.schedule;
+      schedule = c.begin.ensures.schedule ∙ ap (λ (x : Stand). x.schedule) c.deref_mut-core.ensures.value ∙ c.requires.following.knows.schedule;
       records = ap (λ (o : Option (List (List ℕ))). is_some o) made.sets;
       stands = subst₂ (Stands c.begin.new.core) (sym made.sets) (sym made.steps) made.stands;
       between = subst₂ (λ (ys : Option (List (List ℕ))) (x : List Step). IsBetween meaning fits there width s ys bodies start x c.args.jobs.now.bodies later.deferred c.args.jobs.now.pool later.state) (sym made.sets) (sym made.steps) (record {
@@ -281,7 +278,7 @@ returns-clause-ran g c =
     let none : length out ≡ 0 = let a = c.count.ensures in let b = told.0 in omega arith in
     record {
       trace = trace;
-      more = c.in_ok-push.ensures.items;
+      more = c.in_ok-add.ensures.traces;
       records = inv.records;
       ran = stage_end width (recording s sets) bodies start h w.state deferred out inv.between.stage none
           (subst (λ (x : Schedule). IsComplete (recording x sets) h) inv.schedule (told.1 (none_there width (recording s sets) bodies start h w.state deferred out inv.between.stage none)));
@@ -344,8 +341,8 @@ returns-clause-kept g c = λ lost.
     let w = c.loop-turn.run.state in
     placed_kept meaning fits there s bodies slots out w inv.between.placed
 
-pub returns-in_err-push-clause-kept : goal.returns-in_err-push-clause-kept
-returns-in_err-push-clause-kept g c = λ lost.
+pub returns-in_err-add-clause-kept : goal.returns-in_err-add-clause-kept
+returns-in_err-add-clause-kept g c = λ lost.
     let meaning = g.B.Body.meaning in
     let fits = g.B.Body.fits in
     let there = g.M.SpawnThreads.has_scope c.args.mode.now in
@@ -365,23 +362,22 @@ returns-clause-following g c =
     let inv = c.loop-turn.invariant in
     let trace = c.loop-turn.trace in
     let state = c.loop-turn.run.state.state in
-    subst (λ (rs : List Recorded). IsFollowing c.loop-turn.core s rs state.world.slots) (sym c.in_ok-push.ensures.items)
-    (following_more c.loop-turn.core s c.args.recording.now.traces.items trace state.world.slots inv.schedule inv.stands
-    (latest_there (g.M.Mode.width c.args.mode.now) s trace.sets bodies start trace.steps state c.loop-turn.run.deferred c.loop-turn.jobs.pool inv.records inv.between.stage))
+    let latest = latest_there (g.M.Mode.width c.args.mode.now) s trace.sets bodies start trace.steps state c.loop-turn.run.deferred c.loop-turn.jobs.pool inv.records inv.between.stage in
+    subst (λ (x : Stand). IsFollowing x s c.add.new.self.sets state.world.slots) (sym (ap (λ b. b.value) c.in_ok-add.ensures.core))
+    (following_on c.loop-turn.core s trace c.add.new.self.sets state.world.slots inv.schedule inv.stands latest c.in_ok-add.ensures.sets)
 
-pub begin-requires-clause-meetings : goal.begin-requires-clause-meetings
-begin-requires-clause-meetings g c =
-    let core = c.deref_mut-core.result.now in
-    of-mapped (λ (sets : Bor KindSets). sets.now) c.latest_of-latest.result (AreMeetings core)
-    (subst (λ (o : Option (List ℕ)). IfSome o (AreMeetings core)) (sym c.latest_of-latest.ensures)
-    (subst₂ (λ (rs : List Recorded) (x : Stand). IfSome (latest_in rs) (AreMeetings x)) (sym c.deref.ensures.value) (sym c.deref_mut-core.ensures.value) c.requires.following.meetings))
+pub begin-requires : goal.begin-requires
+begin-requires g c = subst (λ (x : Stand). AreMeetings x c.args.recording.now.sets) (sym c.deref_mut-core.ensures.value) c.requires.following.knows.meetings
 
-pub begin-requires-clause-there : goal.begin-requires-clause-there
-begin-requires-clause-there g c =
-    let later = c.open.new.self.state.state.world.slots in
-    of-mapped (λ (sets : Bor KindSets). sets.now) c.latest_of-latest.result (λ numbers. numbers ≡ kind_sets_of later)
-    (subst (λ (o : Option (List ℕ)). IfSome o (λ numbers. numbers ≡ kind_sets_of later)) (sym c.latest_of-latest.ensures)
-    (subst₂ (λ (rs : List Recorded) (there : List ℕ). IfSome (latest_in rs) (λ numbers. numbers ≡ there)) (sym c.deref.ensures.value) (sym c.in_ok-open.ensures.sets) c.requires.following.there))
+pub add-requires : goal.add-requires
+add-requires g c =
+    let s = c.args.built.now in
+    let bodies = meanings g.B.Body.meaning s c.args.jobs.now.bodies in
+    let start = c.args.run.now.state.state in
+    let inv = c.loop-turn.invariant in
+    let trace = c.loop-turn.trace in
+    let latest = latest_there (g.M.Mode.width c.args.mode.now) s trace.sets bodies start trace.steps c.loop-turn.run.state.state c.loop-turn.run.deferred c.loop-turn.jobs.pool inv.records inv.between.stage in
+    ap (λ (o : Option (List ℕ)). is_some o) latest
 
 pub take-requires-clause-latest : goal.take-requires-clause-latest
 take-requires-clause-latest g c = λ k is quiet.

@@ -1,4 +1,4 @@
-use Rattle.std.proofs.Common.{ℕ, ◌≡◌, ◌∷◌, ◌<◌, [], List, Option, Some, false, length, refl, sym, ap, ◌∙◌, subst, subst₂, arith}
+use Rattle.std.proofs.Common.{ℕ, [], List, Option, Some, false, length, refl, sym, ap, ◌∙◌, subst, subst₂, arith}
 use Rattle.model.specs.declared.steps.Ready.{Ready}
 use Rattle.model.specs.declared.steps.Step.{Step}
 use Rattle.model.specs.state.State.{State}

@@ -1,9 +1,8 @@
 use Rattle.std.proofs.Common.{◌≡◌, ◌<◌, List, Option, Some, None, length, true, sym, ap, ◌∙◌, subst, arith}
 use Rattle.std.proofs.lemmas.List.{get_or_default}
 use Rattle.model.specs.steps.Schedule.{params_of}
-use Rattle.model.specs.runs.RunState.{body_of}
 use Rattle.body.specs.Keeps.{KeepsWithin}
-use Rattle.engine.specs.Meanings.{body_at, meaning_of, meanings}
+use Rattle.engine.specs.Meanings.{body_at, meaning_of}
 use Rattle.engine.proofs.Placing.{meaning-there}
 use Rattle.engine.proofs.bodies.Bodies.is_fit.Goals as goal
 

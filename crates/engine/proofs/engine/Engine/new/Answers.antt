@@ -74,13 +74,16 @@ returns-in_err-keep_shapes-clause-misfit g c = λ n.
     )
 
 pub invariant_of-result : goal.invariant_of-result
-invariant_of-result g c = λ e.
-    let placed = ap (map (λ x. Some x)) c.deref.ensures.value ∙ sym c.in_ok-bodies.ensures in (
-      subst (λ (state : ModelState). Suits g.B.Body.fits c.args.built c.in_ok-bodies.bodies state) (sym c.keep_shapes.ensures)
-          (subst (λ xs. Suits g.B.Body.fits c.args.built xs c.args.state) placed c.in_default.ensures.suits),
-      subst (λ xs. AllKeepWithin c.args.built (meanings g.B.Body.meaning c.args.built xs)) placed c.in_default.ensures.keep,
-      c.in_ok-deferred.ensures.suits,
-    )
+invariant_of-result g c = (
+  (λ e.
+      let placed = ap (map (λ x. Some x)) c.deref.ensures.value ∙ sym c.in_ok-bodies.ensures in (
+        subst (λ (state : ModelState). Suits g.B.Body.fits c.args.built c.in_ok-bodies.bodies state) (sym c.keep_shapes.ensures)
+            (subst (λ xs. Suits g.B.Body.fits c.args.built xs c.args.state) placed c.in_default.ensures.suits),
+        subst (λ xs. AllKeepWithin c.args.built (meanings g.B.Body.meaning c.args.built xs)) placed c.in_default.ensures.keep,
+        c.in_ok-deferred.ensures.suits,
+      )),
+  tt,
+)
 
 pub returns-clause-count : goal.returns-clause-count
 returns-clause-count g c =

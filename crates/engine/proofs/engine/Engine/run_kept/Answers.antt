@@ -8,7 +8,7 @@ use Rattle.engine.proofs.engine.Engine.run_kept.Goals as goal
 pub put_back-requires-clause-suits : goal.put_back-requires-clause-suits
 put_back-requires-clause-suits g c κs lives =
     let value = c.args.self.now in
-    let later = c.run_engine.new.engine in
+    let later = c.run.new.self in
     let mode = c.keeping-keeping.result in
     let bodies = meanings g.B.Body.meaning value.schedule value.bodies in
     let unspoiled = sym c.is_spoiled.ensures.value ∙ c.if-is_spoiled.false in
@@ -18,7 +18,7 @@ put_back-requires-clause-suits g c κs lives =
 pub put_back-requires-clause-keep : goal.put_back-requires-clause-keep
 put_back-requires-clause-keep g c κs lives =
     let value = c.args.self.now in
-    let later = c.run_engine.new.engine in
+    let later = c.run.new.self in
     let mode = c.keeping-keeping.result in
     let bodies = meanings g.B.Body.meaning value.schedule value.bodies in
     let unspoiled = sym c.is_spoiled.ensures.value ∙ c.if-is_spoiled.false in
@@ -29,5 +29,5 @@ pub put_back-requires-clause-deferred : goal.put_back-requires-clause-deferred
 put_back-requires-clause-deferred g c κs lives =
     subst (λ s. IsDeferredFor s c.in_ok-spare.spare.deferred) (sym c.in-Err.ensures.schedule) c.in_ok-spare.ensures.deferred
 
-pub run_engine-requires : goal.run_engine-requires
-run_engine-requires g c k = search sendable depth 40
+pub run-requires : goal.run-requires
+run-requires g c k = search sendable depth 40

@@ -1,4 +1,4 @@
-use Rattle.std.proofs.Common.{◌≡◌, refl, sym, ap, ◌∙◌, subst}
+use Rattle.std.proofs.Common.{refl, sym, ap, subst}
 use Rattle.model.specs.state.State.{State}
 use Rattle.model.specs.steps.Schedule.{Schedule}
 use Rattle.engine.specs.EngineValue.{EngineValue}
@@ -16,14 +16,17 @@ returns-then-lacks_memories-clause-bodies g c =
     (λ e. absurd (cc), λ h. absurd (h.0 lacks))
 
 pub invariant_of-self : goal.invariant_of-self
-invariant_of-self g c = λ _.
-    let fit = subst (λ (v : EngineValue g.row.B.Denot). AreFit g.B.Body.fits v.schedule v.bodies) (sym c.self.view_is) c.if-not-has_bodies.ensures.fit in
-    let keep = subst (λ (v : EngineValue g.row.B.Denot). AllKeepWithin v.schedule (meanings g.B.Body.meaning v.schedule v.bodies)) (sym c.self.view_is) (c.if-not-has_bodies.ensures.keep refl) in (
-      record {
-        body_count = fit.body_count;
-        memories = subst (λ (w : State). HasMemories c.self.inside.built w) (sym c.keep_shapes.ensures) c.if-lacks_memories.ensures;
-        fit = fit.fit;
-      },
-      keep,
-      c.in_ok-deferred.ensures.suits,
-    )
+invariant_of-self g c = (
+  (λ _.
+      let fit = subst (λ (v : EngineValue g.row.B.Denot). AreFit g.B.Body.fits v.schedule v.bodies) (sym c.self.view_is) c.if-not-has_bodies.ensures.fit in
+      let keep = subst (λ (v : EngineValue g.row.B.Denot). AllKeepWithin v.schedule (meanings g.B.Body.meaning v.schedule v.bodies)) (sym c.self.view_is) (c.if-not-has_bodies.ensures.keep refl) in (
+        record {
+          body_count = fit.body_count;
+          memories = subst (λ (w : State). HasMemories c.self.inside.built w) (sym c.keep_shapes.ensures) c.if-lacks_memories.ensures;
+          fit = fit.fit;
+        },
+        keep,
+        c.in_ok-deferred.ensures.suits,
+      )),
+  c.self.invariant.1,
+)

@@ -1,4 +1,4 @@
-use Rattle.std.proofs.Common.{◌≡◌, ℕ, List, Option, refl, sym, ap, ◌∙◌, subst}
+use Rattle.std.proofs.Common.{◌≡◌, ℕ, Err, List, Option, refl, sym, ap, ◌∙◌, subst}
 use Rattle.std.proofs.lemmas.Bool.{false≢true}
 use denote.Param.Send.{sendable}
 use Rattle.model.specs.state.Agreement.{AgreesWithAll}
@@ -9,21 +9,20 @@ use Rattle.kinds.specs.Components.{widths}
 use Rattle.engine.specs.Deferred.{IsDeferredFor}
 use Rattle.engine.specs.EngineValue.{EngineValue}
 use Rattle.engine.specs.Meanings.{meanings, AllKeepWithin, AreFit, Suits}
-use Rattle.engine.specs.Stops.{AreStopped, StopsAs, fault_of}
+use Rattle.engine.specs.Stops.{AreStopped, StopsAs}
 use Rattle.engine.specs.Next.{IsAtRest}
 use Rattle.engine.proofs.Agreeing.{engine_agrees}
 use Rattle.engine.proofs.Stops.{lost_told, one_stop, stops_told, stops_up, told_unspoiled}
-use Rattle.engine.proofs.engine.run_engine.Goals as goal
-use Rattle.model.proofs.lists.Results.{handed_on}
+use Rattle.engine.proofs.engine.Engine.run_by.Goals as goal
 
 pub run_times-traces-requires : goal.run_times-traces-requires
 run_times-traces-requires g c = λ lifetimes.
     let meaning = g.B.Body.meaning in
     let fits = g.B.Body.fits in
-    let inside = c.engine.inside in
+    let inside = c.self.inside in
     let same = c.into_open-state.ensures.state ∙ c.replace.ensures.value in
     let bodies_are = c.replace-bodies.ensures.value in
-    let held = c.engine.invariant c.if-engine.false in
+    let held = c.self.invariant.0 c.if-self.false in
     let rest : IsAtRest meaning fits inside.built c.replace-bodies.result c.replace-deferred.result c.into_open-state.result = record {
       suits = subst (λ (slots : List (Option g.row.B.Denot)). Suits fits inside.built slots c.into_open-state.result.state) (sym bodies_are)
           (subst (λ (state : State). Suits fits inside.built inside.bodies state) (sym same) held.0);
@@ -31,26 +30,29 @@ run_times-traces-requires g c = λ lifetimes.
       home = c.into_open-state.ensures.home;
       deferred_for = subst (IsDeferredFor inside.built) (sym c.replace-deferred.ensures.value) held.2;
     } in
-    (c.type_bounds.send-B, (c.type_bounds.send-M-Signals, (c.type_bounds.send-M-Gate, (c.type_bounds.sync-M-Gate, ((refl, tt), (rest, c.in-Ok.ensures))))))
+    (search sendable depth 40, (search sendable depth 40, (search sendable depth 40, (search sendable depth 40, ((refl, tt), (rest, (c.in-Ok.ensures, c.self.invariant.1)))))))
 
 -- the mode may send what it sends
 pub end-requires : goal.end-requires
 end-requires g c = λ lifetimes. (search sendable depth 40, (search sendable depth 40, (search sendable depth 40, (search sendable depth 40, (refl, tt)))))
 
-pub returns-in_err-traces-clause-stopped : goal.returns-in_err-traces-clause-stopped
-returns-in_err-traces-clause-stopped g c =
+pub keep-requires : goal.keep-requires
+keep-requires g c = λ lifetimes. (search sendable depth 40, (search sendable depth 40, (search sendable depth 40, (search sendable depth 40, ((refl, tt), c.in-Ok-traces.ensures.empty)))))
+
+pub returns-in-Err-clause-stopped : goal.returns-in-Err-clause-stopped
+returns-in-Err-clause-stopped g c =
     let meaning = g.B.Body.meaning in
     let there = g.M.SpawnThreads.has_scope c.args.mode.now in
     let width = g.M.Mode.width c.args.mode.now in
-    let inside = c.engine.inside in
-    let value = c.args.engine.now in
+    let inside = c.self.inside in
+    let value = c.args.self.now in
     let bodies = meanings meaning value.schedule value.bodies in
     let same = c.into_open-state.ensures.state ∙ c.replace.ensures.value in
     let bodies_are = c.replace-bodies.ensures.value in
     let times = c.args.times in
-    let told = c.in_err-traces.field-0.0 in
+    let told = c.in-Err.stop in
     let wide = λ (met : Cause) (h : IsWideStopped width inside.built (meanings meaning inside.built c.replace-bodies.result) times c.into_open-state.result.state met).
-    subst (λ (v : EngineValue g.row.B.Denot). IsWideStopped width v.schedule (meanings meaning v.schedule v.bodies) times v.state met) c.engine.view_is
+    subst (λ (v : EngineValue g.row.B.Denot). IsWideStopped width v.schedule (meanings meaning v.schedule v.bodies) times v.state met) c.self.view_is
     (subst (λ (slots : List (Option g.row.B.Denot)). IsWideStopped width inside.built (meanings meaning inside.built slots) times inside.state met) bodies_are
     (subst (λ (state : State). IsWideStopped width inside.built (meanings meaning inside.built c.replace-bodies.result) times state met) same h)) in
     let single = λ (met : Cause) (h : IsWideStopped width value.schedule bodies times value.state met) (one : width ≡ 1).
@@ -60,70 +62,70 @@ returns-in_err-traces-clause-stopped g c =
       single = single met h;
       undefined = λ one has. c.single_runs_are_one.ensures.defined value.schedule bodies times value.state met has (single met h one);
     } in r) in
-    handed_on (StopsAs there width value.schedule bodies times value.state) c.from_residual.result (fault_of told) c.from_residual.ensures.1
+    subst (StopsAs there width value.schedule bodies times value.state) (sym c.from.ensures)
     (stops_told there width value.schedule bodies times value.state told stopped
-    (stops_up there (IsWideStopped width inside.built (meanings meaning inside.built c.replace-bodies.result) times c.into_open-state.result.state) (IsWideStopped width value.schedule bodies times value.state) told wide c.in_err-traces.ensures.stopped))
+    (stops_up there (IsWideStopped width inside.built (meanings meaning inside.built c.replace-bodies.result) times c.into_open-state.result.state) (IsWideStopped width value.schedule bodies times value.state) told wide c.in-Err.ensures.stopped))
 
 -- none of its stops is told as an engine that is spoiled, and it was not
-pub returns-in_err-traces-clause-spoiled : goal.returns-in_err-traces-clause-spoiled
-returns-in_err-traces-clause-spoiled g c =
-    let told = told_unspoiled c.from_residual.result c.in_err-traces.field-0.0 c.from_residual.ensures.1 in
-    let same = ap (λ (v : EngineValue g.row.B.Denot). v.spoiled) c.engine.view_is in
-    (λ e. absurd (told e), λ was. absurd (false≢true (sym c.if-engine.false ∙ (same ∙ was))))
+pub returns-in-Err-clause-spoiled : goal.returns-in-Err-clause-spoiled
+returns-in-Err-clause-spoiled g c =
+    let told = told_unspoiled (Err c.from.result) c.in-Err.stop c.from.ensures in
+    let same = ap (λ (v : EngineValue g.row.B.Denot). v.spoiled) c.self.view_is in
+    (λ e. absurd (told e), λ was. absurd (false≢true (sym c.if-self.false ∙ (same ∙ was))))
 
-pub returns-in_err-traces-clause-unchanged : goal.returns-in_err-traces-clause-unchanged
-returns-in_err-traces-clause-unchanged g c = λ e. absurd (told_unspoiled c.from_residual.result c.in_err-traces.field-0.0 c.from_residual.ensures.1 e)
+pub returns-in-Err-clause-unchanged : goal.returns-in-Err-clause-unchanged
+returns-in-Err-clause-unchanged g c = λ e. absurd (told_unspoiled (Err c.from.result) c.in-Err.stop c.from.ensures e)
 
-pub returns-in_err-traces-clause-meanings : goal.returns-in_err-traces-clause-meanings
-returns-in_err-traces-clause-meanings g c = λ lost.
+pub returns-in-Err-clause-meanings : goal.returns-in-Err-clause-meanings
+returns-in-Err-clause-meanings g c = λ lost.
     let meaning = g.B.Body.meaning in
-    let inside = c.engine.inside in
+    let inside = c.self.inside in
     let bodies_are = c.replace-bodies.ensures.value in
     let later = c.run_times-traces.new.jobs.bodies in
-    let told = c.in_err-traces.field-0.0 in
-    let meant = c.in_err-traces.ensures.meanings (λ e. lost_told c.from_residual.result told c.from_residual.ensures.1 lost (one_stop e)) in
-    subst (λ (v : EngineValue g.row.B.Denot). meanings meaning v.schedule later ≡ meanings meaning v.schedule v.bodies) c.engine.view_is (meant ∙ ap (meanings meaning inside.built) bodies_are)
+    let told = c.in-Err.stop in
+    let meant = c.in-Err.ensures.meanings (λ e. lost_told (Err c.from.result) told c.from.ensures lost (one_stop e)) in
+    subst (λ (v : EngineValue g.row.B.Denot). meanings meaning v.schedule later ≡ meanings meaning v.schedule v.bodies) c.self.view_is (meant ∙ ap (meanings meaning inside.built) bodies_are)
 
 pub returns-clause-ran : goal.returns-clause-ran
 returns-clause-ran g c =
     let meaning = g.B.Body.meaning in
     let width = g.M.Mode.width c.args.mode.now in
-    let inside = c.engine.inside in
-    let value = c.args.engine.now in
+    let inside = c.self.inside in
+    let value = c.args.self.now in
     let bodies = meanings meaning value.schedule value.bodies in
     let same = c.into_open-state.ensures.state ∙ c.replace.ensures.value in
     let bodies_are = c.replace-bodies.ensures.value in
     let times = c.args.times in
-    let hs = c.in_ok-traces.traces.items in
+    let hs = c.in-Ok-traces.traces.items in
     let end = c.run_times-traces.new.run.state.state in
-    let held = c.engine.invariant c.if-engine.false in
+    let held = c.self.invariant.0 c.if-self.false in
     let before : EngineValue g.row.B.Denot = record { schedule = inside.built; bodies = inside.bodies; state = inside.state; spoiled = inside.spoiled } in
     let inner : AreWideRuns width inside.built (meanings meaning inside.built inside.bodies) inside.state hs c.into_state.result
     = subst (AreWideRuns width inside.built (meanings meaning inside.built inside.bodies) inside.state hs) (sym c.into_state.ensures)
     (subst (λ (slots : List (Option g.row.B.Denot)). AreWideRuns width inside.built (meanings meaning inside.built slots) inside.state hs end) bodies_are
-    (subst (λ (state : State). AreWideRuns width inside.built (meanings meaning inside.built c.replace-bodies.result) state hs end) same c.in_ok-traces.ensures.ran)) in
-    let ran = subst (λ (v : EngineValue g.row.B.Denot). AreWideRuns width v.schedule (meanings meaning v.schedule v.bodies) v.state hs c.into_state.result) c.engine.view_is inner in
+    (subst (λ (state : State). AreWideRuns width inside.built (meanings meaning inside.built c.replace-bodies.result) state hs end) same c.in-Ok-traces.ensures.ran)) in
+    let ran = subst (λ (v : EngineValue g.row.B.Denot). AreWideRuns width v.schedule (meanings meaning v.schedule v.bodies) v.state hs c.into_state.result) c.self.view_is inner in
     record {
-      count = c.in_ok-traces.ensures.count;
-      records = c.in_ok-traces.ensures.records;
+      count = c.in-Ok-traces.ensures.count;
+      records = c.in-Ok-traces.ensures.records;
       ran = ran;
       sound = c.runs_are_sound.ensures.wide width value.schedule bodies value.state hs c.into_state.result ran;
       single = λ one. c.wide_of_one_is_single.ensures.runs value.schedule bodies value.state hs c.into_state.result
           (subst (λ (n : ℕ). AreWideRuns n value.schedule bodies value.state hs c.into_state.result) one ran);
-      agreement = subst (λ (v : EngineValue g.row.B.Denot). AgreesWithAll widths v.schedule (meanings meaning v.schedule v.bodies) v.state times c.into_state.result) c.engine.view_is
+      agreement = subst (λ (v : EngineValue g.row.B.Denot). AgreesWithAll widths v.schedule (meanings meaning v.schedule v.bodies) v.state times c.into_state.result) c.self.view_is
           (engine_agrees meaning width times before hs c.into_state.result c.prove_law.ensures held.0.memories c.prove_shape.ensures held.1
-          c.in_ok-traces.ensures.count inner);
+          c.in-Ok-traces.ensures.count inner);
     }
 
-pub returns-in_err-traces-clause-fit : goal.returns-in_err-traces-clause-fit
-returns-in_err-traces-clause-fit g c = λ lost fresh.
+pub returns-in-Err-clause-fit : goal.returns-in-Err-clause-fit
+returns-in-Err-clause-fit g c = λ lost fresh.
     let later = c.run_times-traces.new.jobs.bodies in
-    let told = c.in_err-traces.field-0.0 in
-    let fit = c.in_err-traces.ensures.fit (λ e. lost_told c.from_residual.result told c.from_residual.ensures.1 lost (one_stop e)) in
-    subst (λ (v : EngineValue g.row.B.Denot). AreFit g.B.Body.fits v.schedule later) c.engine.view_is fit
+    let told = c.in-Err.stop in
+    let fit = c.in-Err.ensures.fit (λ e. lost_told (Err c.from.result) told c.from.ensures lost (one_stop e)) in
+    subst (λ (v : EngineValue g.row.B.Denot). AreFit g.B.Body.fits v.schedule later) c.self.view_is fit
 
 pub returns-clause-fit : goal.returns-clause-fit
 returns-clause-fit g c = λ lost fresh.
-    let rest = c.in_ok-traces.ensures.rest in
+    let rest = c.in-Ok-traces.ensures.rest in
     let later = c.run_times-traces.new.jobs.bodies in
-    subst (λ (v : EngineValue g.row.B.Denot). AreFit g.B.Body.fits v.schedule later) c.engine.view_is (record { body_count = rest.suits.body_count; fit = rest.suits.fit })
+    subst (λ (v : EngineValue g.row.B.Denot). AreFit g.B.Body.fits v.schedule later) c.self.view_is (record { body_count = rest.suits.body_count; fit = rest.suits.fit })

@@ -1,0 +1,93 @@
+// The workers of runs, where they stand from one call to the next.
+
+ghost use Rattle.std.specs.Prelude.{◌≡◌, [], IfOk};
+
+use body::Body;
+use std::alloc::{AllocError, Global};
+use std::marker::Model;
+use std::mem;
+use worker_pool::{Mode, Pool};
+
+/// Workers that stand from one call to the next, so that no call starts them anew. They come as jobs want them, in the scope of the mode of a run,
+/// and sleep between runs. A run that stops sends them away, and the next one has new ones. `end` sends them away for good: a scope in which they
+/// stand doesn't end before. Contracts see the jobs that are out between two calls: none.
+#[derive(Drop)]
+pub struct Crew<B: Body> {
+    pool: Option<Pool<B>>,
+    // How many workers may stand in the pool.
+    most: usize,
+}
+
+impl<B: Body> Model for Crew<B> {
+    ghost use Rattle.std.specs.Prelude.{◌≡◌, List, [], Some, None};
+    ghost use Rattle.worker_pool.specs.JobOut.{JobOut};
+
+    ghost Value = { List (JobOut B) };
+
+    ghost view = { λ c. elim c.pool [
+      | None ↦ []
+      | Some pool ↦ pool
+    ] };
+
+    ghost invariant = { λ c. (elim c.pool [
+      | None ↦ []
+      | Some pool ↦ pool
+    ]) ≡ [] };
+}
+
+impl<B: Body> Crew<B> {
+    /// A crew of which nobody stands yet.
+    pub fn new() -> Self
+        ensures { result ≡ [] }
+    {
+        Crew {
+            pool: None,
+            most: 0,
+        }
+    }
+
+    /// Sends the workers away, and waits until each has left.
+    pub fn end<'s, M: Mode<'s>>(self, mode: &M)
+    where
+        B: 's,
+    {
+        if let Some(pool) = self.pool {
+            pool.end(mode);
+        }
+    }
+
+    // The pool for a run in the mode: that of the run before, where as many workers may stand in it.
+    pub(crate) fn take<'s, M: Mode<'s>>(
+        &mut self,
+        alloc: Global,
+        mode: &M,
+    ) -> Result<Pool<B>, AllocError>
+    where
+        B: 's,
+        ensures { IfOk result (λ pool. pool ≡ []) }
+    {
+        let workers = mode.standing();
+        let Crew { pool, most } = mem::replace(self, Crew::new());
+        let Some(pool) = pool else {
+            return Pool::begin(alloc, workers);
+        };
+        if most == workers {
+            return Ok(pool);
+        }
+        pool.end(mode);
+        Pool::begin(alloc, workers)
+    }
+
+    // Keeps the pool of a run in the mode for the next one.
+    pub(crate) fn keep<'s, M: Mode<'s>>(&mut self, mode: &M, pool: Pool<B>)
+    where
+        B: 's,
+        requires { pool ≡ [] }
+        ensures { self.new ≡ [] }
+    {
+        *self = Crew {
+            pool: Some(pool),
+            most: mode.standing(),
+        };
+    }
+}
