@@ -13,7 +13,7 @@ ghost use Rattle.session.specs.Replies.{shown_text};
 use crate::reply::{Refusal, Reply, Shown};
 use crate::session::Session;
 use body::{Body, Input, State};
-use engine::{InputFault, RunFault, SetFault};
+use engine::{Crew, InputFault, RunFault, SetFault};
 use kinds::Res;
 use requests::Request;
 use state_lines::events::lines_of_events;
@@ -25,13 +25,14 @@ use std::alloc::{AllocError, Global};
 use worker_pool::Mode;
 
 impl<B: Body> Session<B> {
-    /// Answers a request, its runs in the mode, with workers that stand wherever the mode has threads. Where the state is lost, as it is once a run
-    /// failed, only a greeting, going back, forgetting and quitting are answered.
+    /// Answers a request, its runs in the mode, by a crew whose workers stand wherever the mode has threads. Where the state is lost, as it is once
+    /// a run failed, only a greeting, going back, forgetting and quitting are answered.
     pub fn answer<'s, M: Mode<'s>>(
         &mut self,
         alloc: Global,
         request: &Request<'_>,
         mode: &M,
+        crew: &mut Crew<B>,
     ) -> Reply
     where
         B: 's,
@@ -44,7 +45,7 @@ impl<B: Body> Session<B> {
             Request::Forget(name) => self.forget(name),
             Request::Quit => self.done(Shown::Nothing),
             _ if self.engine.is_spoiled() => Reply::Refused(Refusal::Lost),
-            Request::Run(times) => self.run(alloc, *times, mode),
+            Request::Run(times) => self.run(alloc, *times, mode, crew),
             Request::Put(input) => self.put(alloc, input),
             Request::Mark(name) => self.mark(alloc, name),
             look => self.look(alloc, look),
@@ -74,14 +75,20 @@ impl<B: Body> Session<B> {
     }
 
     // Runs the schedule so many times.
-    fn run<'s, M: Mode<'s>>(&mut self, alloc: Global, times: u32, mode: &M) -> Reply
+    fn run<'s, M: Mode<'s>>(
+        &mut self,
+        alloc: Global,
+        times: u32,
+        mode: &M,
+        crew: &mut Crew<B>,
+    ) -> Reply
     where
         B: 's,
         requires { self.old.engine.spoiled ≡ false }
         ensures { IsAnswer B.meaning (M.has_scope mode.now) (M.width mode.now) self.old
             (asked.Run times) result self.new }
     {
-        match self.engine.run(alloc, times, &mode.keeping()) {
+        match self.engine.run_by(alloc, times, &mode.keeping(), crew) {
             Ok(_traces) => self.done(Shown::Nothing),
             Err(RunFault::Spoiled) => unreachable!(),
             Err(fault) => Reply::Lost(fault),

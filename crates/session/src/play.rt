@@ -9,6 +9,7 @@ ghost use Rattle.session.specs.declared.play.PlayFault.TheVariants as play_fault
 use crate::reply::{Refusal, Reply};
 use crate::session::Session;
 use body::Body;
+use engine::Crew;
 use requests::{Request, RequestFault, read_request};
 use std::alloc::{AllocError, Global};
 use std::io::{BufRead, Write};
@@ -64,7 +65,8 @@ impl From<WriteFault> for PlayFault {
 }
 
 /// Plays a session: reads requests, a line each, and writes the reply to each, whole and in one call where the writer takes it, before it
-/// reads the next one. It ends behind `quit`, or where the input ends; a last line without its end is not done.
+/// reads the next one. It ends behind `quit`, or where the input ends; a last line without its end is not done. Workers stand from the first run
+/// until the session ends.
 pub fn play<'s, B: Body + 's, M: Mode<'s>, R: BufRead, O: Write>(
     alloc: Global,
     session: &mut Session<B>,
@@ -76,10 +78,29 @@ pub fn play<'s, B: Body + 's, M: Mode<'s>, R: BufRead, O: Write>(
         (record { input = R.remaining requests.old; output = O.contents out.old })
         (record { input = R.remaining requests.new; output = O.contents out.new }) result }
 {
+    let mut crew = Crew::new();
+    let played = play_by(alloc, session, mode, &mut crew, requests, out);
+    crew.end(mode);
+    played
+}
+
+// Plays a session, its runs by a crew.
+fn play_by<'s, B: Body + 's, M: Mode<'s>, R: BufRead, O: Write>(
+    alloc: Global,
+    session: &mut Session<B>,
+    mode: &M,
+    crew: &mut Crew<B>,
+    requests: &mut R,
+    out: &mut O,
+) -> Result<(), PlayFault>
+    ensures { IsPlayed B.meaning (M.has_scope mode.now) (M.width mode.now) session.old session.new
+        (record { input = R.remaining requests.old; output = O.contents out.old })
+        (record { input = R.remaining requests.new; output = O.contents out.new }) result }
+{
     let mut line = Vec::with_capacity(alloc, MOST_BYTES as usize + 1)?;
     let mut text = String::new(alloc);
     for _ in 0..u64::MAX {
-        let Some((reply, is_last)) = turn(alloc, session, mode, requests, &mut line)? else {
+        let Some((reply, is_last)) = turn(alloc, session, mode, crew, requests, &mut line)? else {
             return Ok(());
         };
         tell(out, &mut text, &reply)?;
@@ -95,6 +116,7 @@ fn turn<'s, B: Body + 's, M: Mode<'s>, R: BufRead>(
     alloc: Global,
     session: &mut Session<B>,
     mode: &M,
+    crew: &mut Crew<B>,
     requests: &mut R,
     line: &mut Vec<u8>,
 ) -> Result<Option<(Reply, bool)>, PlayFault>
@@ -104,7 +126,7 @@ fn turn<'s, B: Body + 's, M: Mode<'s>, R: BufRead>(
     match next_line(requests, MOST_BYTES, line)? {
         Line::End => Ok(None),
         Line::TooLong => Ok(Some((Reply::Refused(Refusal::TooLong), false))),
-        Line::Whole => Ok(Some(reply_to(alloc, session, mode, line.as_slice()))),
+        Line::Whole => Ok(Some(reply_to(alloc, session, mode, crew, line.as_slice()))),
     }
 }
 
@@ -118,11 +140,12 @@ fn tell<O: Write>(out: &mut O, text: &mut String, reply: &Reply) -> Result<(), P
     Ok(())
 }
 
-/// What is replied to a line, and whether that is the last reply.
+/// What is replied to a line, its runs by a crew, and whether that is the last reply.
 pub fn reply_to<'s, B: Body + 's, M: Mode<'s>>(
     alloc: Global,
     session: &mut Session<B>,
     mode: &M,
+    crew: &mut Crew<B>,
     line: &[u8],
 ) -> (Reply, bool)
     ensures { IsReplied B.meaning (M.has_scope mode.now) (M.width mode.now) session.old line.now
@@ -133,7 +156,7 @@ pub fn reply_to<'s, B: Body + 's, M: Mode<'s>>(
     };
     match read_request(alloc, line) {
         Ok(request) => {
-            let reply = session.answer(alloc, &request, mode);
+            let reply = session.answer(alloc, &request, mode, crew);
             (reply, is_quit(&request))
         }
         Err(RequestFault::Unknown) => (Reply::Refused(Refusal::Unknown), false),

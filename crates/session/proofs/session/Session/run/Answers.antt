@@ -10,14 +10,14 @@ use Rattle.session.proofs.session.Session.run.Goals as goal
 
 pub invariant_of-self : goal.invariant_of-self
 invariant_of-self g c =
-    fitting g.B.Body.fits c.self.inside.engine c.run.new.self c.self.inside.marks c.run.ensures.schedule
-    (subst (λ (s : Schedule). AreFit g.B.Body.fits s c.run.new.self.bodies) (sym c.run.ensures.schedule) (c.run.ensures.fit (λ e. absurd (ok_err c.run.result c.in-Ok._traces NoWorker c.in-Ok.is e)) (ap (λ (l : Live g.row.B.Denot). l.engine.spoiled) c.self.view_is ∙ c.requires))) c.self.invariant
+    fitting g.B.Body.fits c.self.inside.engine c.run_by.new.self c.self.inside.marks c.run_by.ensures.schedule
+    (subst (λ (s : Schedule). AreFit g.B.Body.fits s c.run_by.new.self.bodies) (sym c.run_by.ensures.schedule) (c.run_by.ensures.fit (λ e. absurd (ok_err c.run_by.result c.in-Ok._traces NoWorker c.in-Ok.is e)) (ap (λ (l : Live g.row.B.Denot). l.engine.spoiled) c.self.view_is ∙ c.requires))) c.self.invariant
 
 pub invariant_of-self-2 : goal.invariant_of-self-2
 invariant_of-self-2 g c =
     let scope = g.M.SpawnThreads.has_scope c.keeping.result in
     let bodies = meanings g.B.Body.meaning c.self.inside.engine.schedule c.self.inside.engine.bodies in
     let stops = StopsAs scope (g.M.Mode.width c.keeping.result) c.self.inside.engine.schedule bodies c.args.times c.self.inside.engine.state in
-    fitting g.B.Body.fits c.self.inside.engine c.run.new.self c.self.inside.marks c.run.ensures.schedule
-    (subst (λ (s : Schedule). AreFit g.B.Body.fits s c.run.new.self.bodies) (sym c.run.ensures.schedule)
-    (c.run.ensures.fit (λ e. c.keeping.ensures.stands ∙ subst (λ r. IfErr r stops) e c.run.ensures.stopped) (ap (λ (l : Live g.row.B.Denot). l.engine.spoiled) c.self.view_is ∙ c.requires))) c.self.invariant
+    fitting g.B.Body.fits c.self.inside.engine c.run_by.new.self c.self.inside.marks c.run_by.ensures.schedule
+    (subst (λ (s : Schedule). AreFit g.B.Body.fits s c.run_by.new.self.bodies) (sym c.run_by.ensures.schedule)
+    (c.run_by.ensures.fit (λ e. c.keeping.ensures.stands ∙ subst (λ r. IfErr r stops) e c.run_by.ensures.stopped) (ap (λ (l : Live g.row.B.Denot). l.engine.spoiled) c.self.view_is ∙ c.requires))) c.self.invariant

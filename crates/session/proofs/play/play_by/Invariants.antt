@@ -1,5 +1,5 @@
 use Rattle.session.specs.Plays.{HavePlayed}
-use Rattle.session.proofs.play.play.Given as goal
+use Rattle.session.proofs.play.play_by.Given as goal
 
 -- the lines so far were replied
 abbrev pub invariant-loop : goal.invariant-loop

@@ -3,7 +3,7 @@ use Rattle.session.specs.Plays.{IsPlayed, IsTurn, Streams}
 use Rattle.session.specs.declared.play.PlayFault.TheVariants.{Memory}
 use Rattle.session.specs.declared.reply.Reply.{Reply}
 use Rattle.session.proofs.Playing.{goes_on, last_told, not_read, not_told, played_none, told_err}
-use Rattle.session.proofs.play.play.Goals as goal
+use Rattle.session.proofs.play.play_by.Goals as goal
 
 pub loop-init : goal.loop-init
 loop-init g c =
