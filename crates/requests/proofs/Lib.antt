@@ -3,3 +3,4 @@ mod FieldTexts
 mod ComponentTexts
 mod ArgumentTexts
 mod Lines
+pub mod Widths

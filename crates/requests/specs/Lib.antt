@@ -3,3 +3,4 @@ pub mod Commands
 pub mod Grammar
 pub mod Parts
 pub mod Faults
+pub mod Widths

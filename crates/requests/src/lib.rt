@@ -4,6 +4,7 @@
 mod arguments;
 mod command;
 mod components;
+pub mod laws;
 mod reading;
 mod request;
 #[cfg(test)]
