@@ -1,3 +1,10 @@
+mod Alike
 mod Kept
+mod LineCounts
+mod LinesAlike
 mod Lives
+mod Lockstep
+mod MarksAlike
 mod Playing
+mod Ready
+mod Taken

@@ -4,3 +4,4 @@ pub mod Replies
 pub mod Looks
 pub mod Answers
 pub mod Plays
+pub mod Lockstep

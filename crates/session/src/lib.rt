@@ -2,6 +2,7 @@
 #![tactic(auto)]
 
 mod answering;
+pub mod laws;
 pub mod marks;
 pub mod play;
 pub mod reply;

@@ -1,6 +1,8 @@
 // States that a host keeps by name, to go back to.
 
 ghost use Rattle.std.specs.Prelude.{◌≡◌, [], is_some, length, option_map, position, OnErr, OnOk};
+ghost use Rattle.std.specs.List.{AllByRecursion};
+ghost use Rattle.body.specs.Steps.{HasShape};
 ghost use Rattle.session.specs.Marks.{can_keep, is_kept, is_named, kept_at, mark_of, with_mark, without};
 
 use body::State;
@@ -87,6 +89,15 @@ impl Marks {
                 true
             }
             None => false,
+        }
+    }
+
+    /// Proves that each state that is kept has the shape of a state.
+    pub(crate) fn prove_shapes(&self)
+        ensures { AllByRecursion (λ mark. HasShape mark.1) self.now }
+    {
+        for mark in self.list.iter() {
+            mark.state.prove_shape();
         }
     }
 
