@@ -1,6 +1,6 @@
 // A session of a program file, on readers and writers.
 
-ghost use Rattle.std.specs.Prelude.{◌≡◌, ◌≤◌, true, IfErr, IfOk};
+ghost use Rattle.std.specs.Prelude.{◌≡◌, ◌≤◌, IfErr, IfOk};
 ghost use Rattle.ecsplay.specs.Hosted.{IsHosted, IsOpened, IsUnopened, fault_of_play};
 
 use crate::greeting::greeting_of;
@@ -13,8 +13,7 @@ use session::Session;
 use session::play::{PlayFault, play};
 use std::alloc::Global;
 use std::io::{BufRead, Read, Write};
-use std::sync::Wait;
-use std::thread::{Scope, Threads};
+use std::thread::Scope;
 use worker_pool::{Mode, NoGate, Workers};
 
 /// The session of a program file, which is to run with so many workers: its engine as its runs begin, and the greeting.
@@ -67,31 +66,14 @@ fn fault_of(fault: PlayFault) -> Fault
 // The gate of the program's workers, which lets all pass.
 const NO_GATE: NoGate = NoGate;
 
-/// The same with `workers` workers, at least one and at most 64, in threads of the scope.
-pub fn host_in_scope<
-    's,
-    V: 's,
-    H: Threads + Wait + Copy + Send + 's,
-    R: BufRead,
-    O: Write,
-    E: Write,
->(
-    scope: &Scope<'s, V>,
+/// The mode of a session with `workers` workers, at least one and at most 64, in threads of the scope.
+pub fn workers_in<'a, 's, V: 's, H>(
+    scope: &'a Scope<'s, V>,
     runtime: H,
     workers: u8,
-    alloc: Global,
-    session: &mut Session<ScriptBody>,
-    requests: &mut R,
-    out: &mut O,
-    faults: &mut E,
-) -> u8
-    ensures { 1 ≤ workers → workers ≤ 64
-        → IsHosted true workers session.old session.new
-        (record { input = R.remaining requests.old; output = O.contents out.old })
-        (record { input = R.remaining requests.new; output = O.contents out.new })
-        result (E.contents faults.old, E.contents faults.new) }
+) -> Workers<'a, 's, V, H, NoGate>
+    ensures { 1 ≤ workers → workers ≤ 64 → result.count ≡ workers }
 {
     let count = workers.max(1).min(64) as usize;
-    let mode = Workers::new(count, scope, runtime, &NO_GATE);
-    host(alloc, session, &mode, requests, out, faults)
+    Workers::new(count, scope, runtime, &NO_GATE)
 }

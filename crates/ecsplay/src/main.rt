@@ -7,7 +7,7 @@ mod hosting;
 
 use args::Args;
 use command_line::words::words_of;
-use hosting::{host, host_in_scope, session_of};
+use hosting::{host, session_of, workers_in};
 use program::line_faults::tell_line_fault;
 use program::serve::tell;
 use program::stand_ins::open_stand_ins;
@@ -49,12 +49,10 @@ fn host_on_threads<H: Threads + Wait + Copy + Send + Sync + 'static>(
         let Ok(mut requests) = BufReader::new(rt.alloc(), rt.stdin()) else {
             return tell(rt.alloc(), &mut faults, &Fault::Memory);
         };
-        host_in_scope(
-            scope,
-            threads,
-            workers,
+        host(
             rt.alloc(),
             session,
+            &workers_in(scope, threads, workers),
             &mut requests,
             &mut rt.stdout(),
             &mut faults,
