@@ -32,9 +32,15 @@ pub struct Memories {
 
 /// The state of an engine. Contracts see the state that the definitions speak of. No last run is above the
 /// clock, each memory has its registers, and all columns are at home.
-#[derive(Drop)]
 pub struct State {
     pub(crate) open: OpenState,
+}
+
+// One function drops it wherever it is let go.
+impl Drop for State {
+    fn drop(self) {
+        let State { open: _ } = self;
+    }
 }
 
 impl Model for State {
@@ -117,7 +123,8 @@ impl State {
         ensures state { result.state ≡ self }
         ensures home { AreAllHome result.layout }
     {
-        self.open
+        let State { open } = self;
+        open
     }
 
     /// Takes an input at the next tick, which becomes the clock, and gives the id of a new entity. `NoTick` at the last tick, else
