@@ -1,4 +1,4 @@
-"""A client of `ecsplay`, in forty lines: `Play(file)` starts the program, and each call is a request."""
+"""A client of `ecsplay`, in fifty lines: `Play(file)` starts the program, and each call is a request."""
 import subprocess
 
 
@@ -22,9 +22,10 @@ class Play:
             raise EOFError(f"ecsplay ended with status {self.process.wait()}")
         return line[:-1].decode()
 
-    def ask(self, *words):
-        """The lines of the reply to a request."""
-        self.process.stdin.write((" ".join(map(str, words)) + "\n").encode())
+    def ask(self, *words, lines=()):
+        """The lines of the reply to a request, and to the lines that follow it."""
+        text = "".join(f"{it}\n" for it in (" ".join(map(str, words)), *lines))
+        self.process.stdin.write(text.encode())
         self.process.stdin.flush()
         word, *rest = self.line().split(" ")
         if word != "ok":
@@ -39,6 +40,14 @@ class Play:
     def query(self, text, since=0):
         """The rows of a query: for each the id, and what the query fetches."""
         return [line.split(" ") for line in self.ask("query", since, text)]
+
+    def save(self):
+        """The whole state, as lines."""
+        return self.ask("save")
+
+    def load(self, lines):
+        """Sets a state that was saved, in this process or in another."""
+        self.ask("load", len(lines), lines=lines)
 
     def close(self):
         self.process.stdin.close()

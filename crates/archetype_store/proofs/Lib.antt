@@ -37,3 +37,4 @@ pub mod TakenColumns
 pub mod KindsHome
 pub mod Copied
 pub mod NewEntity
+pub mod PushedSlots

@@ -1,9 +1,12 @@
 // The slots by index: the id book, and the rows of the entities that live.
 
-ghost use Rattle.std.specs.Prelude.{◌≡◌, ◌++◌, ◌≤◌, ◌<◌, ◌↔◌, ℕ, true, false, [], Some, length, map, option_map, is_some, All, IsTrue, IfSome, IfNone, MatchOption, IfOk, OnOk, OnErr, IsErrOf};
+ghost use Rattle.std.specs.Prelude.{◌≡◌, ◌∷◌, ◌++◌, ◌≤◌, ◌<◌, ◌↔◌, ℕ, true, false, [], Some, length, map, option_map, is_some, All, IsTrue, IfSome, IfNone, MatchOption, IfOk, OnOk, OnErr, IsErrOf};
 ghost use Rattle.model.specs.Lists.{update_at, is_there};
 ghost use Rattle.model.specs.state.Rows.{IsRising, row_at, insert_component, remove_component};
 ghost use Rattle.model.specs.state.Ids as ids;
+ghost use Rattle.model.specs.state.State.{most_indices};
+ghost use Rattle.model.specs.state.Shape.{IsSlot};
+ghost use Rattle.entity_table.specs.Status.{empty_slot};
 ghost use Rattle.model.specs.state.Commands as commands;
 ghost use Rattle.model.specs.state.Commands.{is_alive, spawned, freed, with_row};
 ghost use Rattle.column_store.specs.Cells.{stamped_number};
@@ -33,7 +36,7 @@ use crate::slot_state::SlotState;
 use crate::storage::Storage;
 use crate::tables::ArchetypeView;
 use column_store::{Components, StampedColumn, StampedValue};
-use entity_table::{Entity, EntityTable, GrantFault};
+use entity_table::{Entity, EntityTable, GrantFault, Status};
 use kinds::Kind;
 use std::alloc::{AllocError, Global};
 use std::marker::Model;
@@ -359,6 +362,21 @@ impl Entities {
         ensures err { OnErr result (self.new ≡ self.old) }
     {
         self.book.grant_level(alloc, counts, granted)?;
+        Ok(())
+    }
+
+    /// Adds the index behind the last one, at this generation and status, without components. `IdsSpent` where no index is left. After an error
+    /// the slots are as they were.
+    pub fn push(&mut self, generation: u32, status: Status) -> Result<(), GrantFault>
+        requires { IsSlot (λ kind. 0) 0 (empty_slot generation status) }
+        ensures ok { OnOk result (self.new.slots
+            ≡ self.old.slots ++ empty_slot generation status ∷ []) }
+        ensures spent { IsErrOf result GrantFault.IdsSpent
+            ↔ (length self.old.slots ≡ most_indices) }
+        ensures layout { self.new.layout ≡ self.old.layout }
+        ensures err { OnErr result (self.new ≡ self.old) }
+    {
+        self.book.push(generation, status)?;
         Ok(())
     }
 

@@ -58,6 +58,18 @@ impl Memory {
         })
     }
 
+    /// The memory of these parts: it is built again from one that was written down.
+    pub fn of(last_run: Tick, cursors: Vec<u64>, registers: [i64; 8]) -> Self
+        ensures { result
+            ≡ record { last_run = last_run; cursors = cursors.items; registers = registers } }
+    {
+        Memory {
+            last_run,
+            cursors,
+            registers,
+        }
+    }
+
     /// The same memory once more. Where an allocation fails there is no copy.
     pub fn copy(&self, alloc: Global) -> Result<Self, AllocError>
         ensures { IfOk result (λ copy. copy ≡ self.now) }

@@ -1,12 +1,12 @@
 // The state of an engine: the world, the kept events, and what systems and conditions remember.
 
-ghost use Rattle.std.specs.Prelude.{◌≡◌, ◌<◌, [], true, length, replicate, get_or, IfErr, IfOk, OnErr, OnOk};
+ghost use Rattle.std.specs.Prelude.{◌≡◌, ◌<◌, ◌≤◌, [], true, length, replicate, get_or, IfErr, IfOk, OnErr, OnOk};
 ghost use Rattle.model.specs.sessions.Inputs.{after_input, can_input, input_id};
-ghost use Rattle.model.specs.state.State.{no_memory, event_count, empty_queue};
+ghost use Rattle.model.specs.state.State.{most_passed_over, no_memory, event_count, empty_queue};
 ghost use Rattle.archetype_store.specs.Layout.{AreAllHome};
 ghost use Rattle.archetype_store.specs.Store.{empty_world};
 ghost use Rattle.body.specs.Inputs.{input_of, IsPutFault};
-ghost use Rattle.body.specs.Steps.{AreInTime, HasShape, state_of};
+ghost use Rattle.body.specs.Steps.{AreInTime, HasShape, counted_state, state_of};
 
 use crate::input::{Input, PutFault};
 use crate::memory::{Memory, copied_memories};
@@ -79,6 +79,18 @@ impl State {
         ensures { result
             ≡ state_of world.state events memories.systems.items memories.conditions.items }
     {
+        State::counted(world, events, memories, 0)
+    }
+
+    /// The same, with so many commands passed over.
+    pub fn counted(world: World, events: Events, memories: Memories, passed_over: u64) -> Self
+        requires last_runs { AreInTime world.state.clock memories.systems.items
+            memories.conditions.items }
+        requires few { passed_over ≤ most_passed_over }
+        requires home { AreAllHome world.layout }
+        ensures { result ≡ counted_state world.state events memories.systems.items
+            memories.conditions.items passed_over }
+    {
         let Memories {
             systems,
             conditions,
@@ -90,7 +102,7 @@ impl State {
                 events,
                 systems,
                 conditions,
-                passed_over: 0,
+                passed_over,
                 room,
             },
         }

@@ -2,7 +2,6 @@
 use Rattle.std.specs.Prelude.{ℕ, ◌≡◌, ◌↔◌, Bool, true, false, cond, List, ◌∷◌, [], ◌++◌, length, codes}
 use Rattle.std.specs.Fmt.{decimal}
 use Rattle.hex.specs.Hex.{encode_lower}
-use Rattle.sha2.specs.Sha256.{sha256}
 use Rattle.model.specs.steps.Ambiguity.{HasNoFilter, Settled}
 use Rattle.model.specs.steps.Schedule.{Schedule}
 
@@ -24,10 +23,10 @@ greeting_text digest systems workers settled filters =
     ++ line_of (codes "settled") (word_of settled)
     ++ line_of (codes "filters") (word_of filters)
 
--- the greeting of a session of a file, with so many workers
-pub record IsGreeting (file : List ℕ) (s : Schedule) (workers : ℕ) (text : List ℕ) : Type 0 where
+-- the greeting of a session of the file with this digest, with so many workers
+pub record IsGreeting (digest : List ℕ) (s : Schedule) (workers : ℕ) (text : List ℕ) : Type 0 where
   pub settled : Bool
   pub settles : (settled ≡ true) ↔ Settled s
   pub filters : Bool
   pub filtered : (filters ≡ false) ↔ HasNoFilter s
-  pub same : text ≡ greeting_text (sha256 file) (length s.systems) workers settled filters
+  pub same : text ≡ greeting_text digest (length s.systems) workers settled filters

@@ -8,19 +8,21 @@ use Rattle.program.specs.Setup.{script_means}
 use Rattle.program.specs.declared.fault.Fault.{Fault}
 use Rattle.program.specs.declared.fault.Fault.TheVariants as fault
 use Rattle.script.specs.declared.script_body.ScriptBody.{ScriptBody}
+use Rattle.sha2.specs.Sha256.{sha256}
 use Rattle.session.specs.Live.{Live}
 use Rattle.session.specs.Plays.{IsPlayed, Streams}
 use Rattle.session.specs.declared.play.PlayFault.{PlayFault}
 use Rattle.session.specs.declared.play.PlayFault.TheVariants as play
 use Rattle.ecsplay.specs.Greeting.{IsGreeting}
 
--- a session of a file with these bytes: the engine of the file, nothing kept, and its greeting
+-- a session of a file with these bytes: the engine of the file, nothing kept, its digest, and its greeting
 pub record IsOpened (bytes : Option (List ℕ)) (workers : ℕ) (live : Live ScriptBody) : Type 0 where
   pub text : List ℕ
   pub whole : IfSome bytes (λ all. text ≡ all)
   pub engine : IsEngineOf text live.engine
   pub marks : live.marks ≡ []
-  pub greeting : IsGreeting text live.engine.schedule workers live.greeting
+  pub file : live.file ≡ sha256 text
+  pub greeting : IsGreeting (sha256 text) live.engine.schedule workers live.greeting
 
 -- the file is refused as a command that runs it no time is
 pub record IsFileRefused (bytes : Option (List ℕ)) (told : Fault) : Type 0 where

@@ -5,24 +5,29 @@ ghost use Rattle.ecsplay.specs.Greeting.{IsGreeting, greeting_text, line_of, wor
 
 use ambiguity_report::report::{is_settled, is_unfiltered};
 use schedule_builder::Built;
-use sha2::{Digest, Sha256};
 use state_text::{Hex, hex_of};
 use std::alloc::{AllocError, Global};
 
-/// The greeting of a session of a file, with so many workers: the protocol, the digest of the file, how many systems there are, the workers,
-/// whether the schedule is settled, and whether some query has an `added` or `changed` term.
+/// The greeting of a session of the file with this digest, with so many workers: the protocol, the digest, how many systems there are, the
+/// workers, whether the schedule is settled, and whether some query has an `added` or `changed` term.
 pub fn greeting_of(
     alloc: Global,
-    file: &[u8],
+    file: [u8; 32],
     built: &Built,
     workers: u8,
 ) -> Result<String, AllocError>
-    ensures { IfOk result (λ text. IsGreeting file.now built.now workers (string_bytes text)) }
+    ensures { IfOk result (λ text. IsGreeting file built.now workers (string_bytes text)) }
 {
     let settled = is_settled(built);
     let unfiltered = is_unfiltered(built);
-    let digest = hex_of(Sha256::digest(file));
-    text_of(alloc, digest, built.count(), workers, settled, !unfiltered)
+    text_of(
+        alloc,
+        hex_of(file),
+        built.count(),
+        workers,
+        settled,
+        !unfiltered,
+    )
 }
 
 // The lines of a greeting.

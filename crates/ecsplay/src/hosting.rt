@@ -11,6 +11,7 @@ use program::serve::tell;
 use script::ScriptBody;
 use session::Session;
 use session::play::{PlayFault, play};
+use sha2::{Digest, Sha256};
 use std::alloc::Global;
 use std::io::{BufRead, Read, Write};
 use std::thread::Scope;
@@ -27,8 +28,9 @@ pub fn session_of<F: Read>(
 {
     let bytes = bytes_of(alloc, file)?;
     let engine = engine_of(alloc, bytes.as_slice())?;
-    let greeting = greeting_of(alloc, bytes.as_slice(), engine.schedule(), workers)?;
-    Ok(Session::new(alloc, engine, greeting))
+    let file = Sha256::digest(bytes.as_slice());
+    let greeting = greeting_of(alloc, file, engine.schedule(), workers)?;
+    Ok(Session::new(alloc, engine, file, greeting))
 }
 
 /// Plays a session to its end, its runs in the mode, and gives the exit status: 0 where it ended behind `quit` or at the end of the requests.

@@ -1,6 +1,13 @@
 // The program: its command line and its streams.
 #![tactic(auto)]
 
+ghost use Rattle.std.specs.Prelude.{◌≡◌, IfErr, IfOk, None, OnOk, Some, false};
+ghost use Rattle.command_line.specs.Asked.{asked_by, asked_of, ecsrun_program};
+ghost use Rattle.command_line.specs.Grammar.{IsNoWork, asked_for};
+ghost use Rattle.command_line.specs.declared.args.LineFault.{LineFault};
+ghost use Rattle.program.specs.LineReported.{IsLineReported};
+ghost use Rattle.program.specs.Served.{IsKept, IsServed};
+
 use command_line::words::words_of;
 use command_line::{Args, Work};
 use program::line_faults::tell_line_fault;
@@ -22,15 +29,29 @@ fn args_of<'a, O: Write, E: Write>(
     words: &'a [String],
     out: &mut O,
     faults: &mut E,
-) -> Result<Args<'a>, u8> {
+) -> Result<Args<'a>, u8>
+    ensures asked { IfOk result (λ args. asked_for asked_by ecsrun_program words.now
+        ≡ Some (asked_of args)) }
+    ensures silent { OnOk result (IsKept (O.contents out.old, O.contents out.new)
+        × IsKept (E.contents faults.old, E.contents faults.new)) }
+    ensures told { IfErr result (λ status. (fault : LineFault)
+        × IsNoWork asked_by ecsrun_program words.now fault
+        × IsLineReported fault status (O.contents out.old, O.contents out.new)
+        (E.contents faults.old, E.contents faults.new)) }
+{
     match Args::read(alloc, words) {
         Ok(args) => Ok(args),
         Err(fault) => Err(tell_line_fault(alloc, out, faults, &fault)),
     }
 }
 
-// The work of a command line, all of it on one thread.
-fn serve_here(rt: HostRuntime, args: &Args<'_>) -> u8 {
+// The work of a command line, all of it on one thread. (No contract can say what bytes the files and the streams have.)
+fn serve_here(rt: HostRuntime, args: &Args<'_>) -> u8
+    ensures { IsServed false 1 args.now.work None None result (None, None) (None, None) (
+      None,
+      None,
+    ) }
+{
     serve(
         rt.alloc(),
         args,

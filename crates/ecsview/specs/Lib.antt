@@ -3,4 +3,6 @@ pub mod Asked
 pub mod Drawings
 pub mod Found
 pub mod Refusals
+pub mod Style
+pub mod Unasked
 pub mod Viewed

@@ -3,6 +3,7 @@
 ghost use Rattle.std.specs.Prelude.{IfErr, IfOk};
 ghost use Rattle.ecsview.specs.Answer.{IsAnswer, IsAnswerOn};
 ghost use Rattle.ecsview.specs.Refusals.{IsRefusal, IsRefusalOn};
+ghost use Rattle.ecsview.specs.Style.{svg_opener, svg_rules};
 ghost use Rattle.ecsview.specs.Viewed.{IsViewed};
 ghost use Rattle.program.specs.Setup.{AreScriptsOf};
 
@@ -38,7 +39,7 @@ pub fn view<F: Read, O: Write, E: Write>(
     out: &mut O,
     faults: &mut E,
 ) -> u8
-    ensures { IsViewed OPENER.now RULES.now args.now.work (F.remaining file.old)
+    ensures { IsViewed svg_opener svg_rules args.now.work (F.remaining file.old)
         (F.remaining trace.old) (F.remaining other.old) result
         (O.contents out.old, O.contents out.new) (E.contents faults.old, E.contents faults.new) }
 {

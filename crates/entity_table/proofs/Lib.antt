@@ -10,3 +10,4 @@ pub mod Keeping
 pub mod Living
 pub mod WithRows
 pub mod TakenBack
+pub mod Appended

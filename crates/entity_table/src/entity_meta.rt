@@ -6,7 +6,7 @@ ghost use Rattle.model.specs.state.State.{Status as ModelStatus};
 ghost use Rattle.model.specs.state.Ids.{granted_slot};
 ghost use Rattle.model.specs.state.Commands.{freed};
 ghost use Rattle.entity_table.specs.Ids.{vacated};
-ghost use Rattle.entity_table.specs.Status.{status_of};
+ghost use Rattle.entity_table.specs.Status.{status_of, empty_slot};
 
 use crate::status::Status;
 use std::marker::Model;
@@ -37,6 +37,13 @@ impl EntityMeta {
             generation: 1,
             status: Status::Vacant,
         }
+    }
+
+    /// An index of this generation and status.
+    pub fn of(generation: u32, status: Status) -> Self
+        ensures { result ≡ empty_slot generation status }
+    {
+        EntityMeta { generation, status }
     }
 
     /// The same once more.

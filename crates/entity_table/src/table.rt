@@ -6,7 +6,8 @@ ghost use Rattle.model.specs.state.State.{most_indices, is_vacant, is_granted};
 ghost use Rattle.model.specs.state.Ids as ids;
 ghost use Rattle.model.specs.state.Commands.{is_alive, spawned, freed};
 ghost use Rattle.model.specs.state.Commands as commands;
-ghost use Rattle.entity_table.specs.Status.{status_of};
+ghost use Rattle.model.specs.state.Shape.{IsSlot};
+ghost use Rattle.entity_table.specs.Status.{status_of, empty_slot};
 ghost use Rattle.entity_table.specs.Ids.{slot_at, lives_at, living_count, IsGranted, AreApart, IsBook, IsKept, settled};
 
 use crate::entity_meta::EntityMeta;
@@ -176,6 +177,30 @@ impl EntityTable {
         self.places.reserve(missing)?;
         self.vacant.make_room(had + missing)?;
         grant_lists(&mut self.places, &mut self.vacant, granted, counts);
+        Ok(())
+    }
+
+    /// Adds the index behind the last one, at this generation and status: a table is built again from one that was written down. `IdsSpent`
+    /// where no index is left. After an error nothing has changed.
+    pub fn push(&mut self, generation: u32, status: Status) -> Result<(), GrantFault>
+        requires { IsSlot (λ kind. 0) 0 (empty_slot generation status) }
+        ensures ok { OnOk result (self.new ≡ self.old ++ empty_slot generation status ∷ []) }
+        ensures spent { IsErrOf result GrantFault.IdsSpent ↔ (length self.old ≡ most_indices) }
+        ensures err { OnErr result (self.new ≡ self.old) }
+    {
+        let index = self.places.len();
+        if index == MOST_INDICES {
+            return Err(GrantFault::IdsSpent);
+        }
+        self.places.reserve(1)?;
+        self.vacant.make_room(index + 1)?;
+        self.places
+            .push_reserved(EntityMeta::of(generation, status));
+        match status {
+            Status::Vacant => self.vacant.push(index as u32),
+            Status::Living => self.living += 1,
+            Status::Granted | Status::Retired => {}
+        }
         Ok(())
     }
 

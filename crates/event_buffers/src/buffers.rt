@@ -51,6 +51,13 @@ impl Events {
         }
     }
 
+    /// The events of these queues, one for each kind by number.
+    pub fn of_queues(queues: [Queue; 4]) -> Self
+        ensures { result ≡ queues }
+    {
+        Events { queues }
+    }
+
     /// The same events once more. Where an allocation fails there is no copy.
     pub fn copy(&self, alloc: Global) -> Result<Self, AllocError>
         ensures { IfOk result (λ copy. copy ≡ self.now) }
@@ -87,6 +94,13 @@ impl Events {
         ensures most { result ≤ last_tick }
     {
         self.queues[kind.number() as usize].next()
+    }
+
+    /// The number at which the newer buffer of a kind begins.
+    pub fn newer(&self, kind: Event) -> u64
+        ensures { result ≡ (queue_of self.now (event_number kind)).newer }
+    {
+        self.queues[kind.number() as usize].newer()
     }
 
     /// Sends an event of a kind, with its value. A refused one changes nothing.

@@ -4,7 +4,7 @@ ghost use Rattle.std.specs.Prelude.{◌≡◌, ◌↔◌, ◌++◌, ◌≤◌, �
 ghost use Rattle.model.specs.state.State.{empty_queue, last_tick};
 ghost use Rattle.model.specs.state.Events.{send, send_all, can_send, unread, updated_queue};
 ghost use Rattle.model.specs.state.Shape.{IsQueue};
-ghost use Rattle.event_buffers.specs.Queue.{values_from};
+ghost use Rattle.event_buffers.specs.Queue.{queue_of_parts, values_from};
 
 use std::alloc::{AllocError, Global};
 use std::marker::Model;
@@ -68,6 +68,18 @@ impl Queue {
         }
     }
 
+    /// The queue of these values, of which the first older one has this number: a queue is built again from one that was written down.
+    pub fn of(first: u64, older: Vec<i64>, newer: Vec<i64>) -> Self
+        requires { first + length older.items + length newer.items ≤ last_tick }
+        ensures { result ≡ queue_of_parts first older.items newer.items }
+    {
+        Queue {
+            first,
+            older,
+            newer,
+        }
+    }
+
     /// The same queue once more. Where an allocation fails there is no copy.
     pub fn copy(&self, alloc: Global) -> Result<Self, AllocError>
         ensures { IfOk result (λ copy. copy ≡ self.now) }
@@ -94,6 +106,13 @@ impl Queue {
         ensures most { result ≤ last_tick }
     {
         self.first + self.older.len() as u64 + self.newer.len() as u64
+    }
+
+    /// The number at which the newer buffer begins.
+    pub fn newer(&self) -> u64
+        ensures { result ≡ self.now.newer }
+    {
+        self.first + self.older.len() as u64
     }
 
     /// Sends an event: it is kept in the newer buffer, at the next number. A refused one changes nothing.

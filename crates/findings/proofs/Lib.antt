@@ -3,6 +3,8 @@ pub mod Fitting
 pub mod Partings
 pub mod Rows
 pub mod Scenes
+pub mod SetsFound
+pub mod SetsLoaded
 pub mod StoryRuns
 pub mod TextSteps
 pub mod Witnesses

@@ -2,6 +2,7 @@ pub mod Apart
 pub mod Loaded
 pub mod Parting
 pub mod Refusals
+pub mod Sets
 pub mod Stories
 pub mod Texts
 pub mod Witness

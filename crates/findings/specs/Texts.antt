@@ -1,6 +1,6 @@
 -- The texts of what is found: pairs that race with their witnesses, and where two traces part.
 use Rattle.std.specs.Prelude.{ℕ, ◌+◌, ◌≡◌, ◌≢◌, ◌<◌, ◌^◌, ◌==◌, ◌↔◌, ◌⊎◌, Bool, false, cond, List, [], ◌∷◌, ◌++◌, codes, decimal, flat_map, get_or, length, Option, Some, None, string_bytes}
-use Rattle.std.specs.List.{AllByRecursion, before_first, position_or_len}
+use Rattle.std.specs.List.{before_first, position_or_len, slice_get}
 use Rattle.std.specs.Option.{option_to_list}
 use Rattle.std.specs.Str.{bytes_eq}
 use Rattle.std.specs.Str.Lines.{lines}
@@ -73,18 +73,30 @@ IsOfEntity index line =
 abbrev pub AreOfOne : List ℕ → List ℕ → Type 0
 AreOfOne one other = (index : ℕ) → IsOfEntity index one ↔ IsOfEntity index other
 
--- lines stand in one row only where they are
-abbrev pub IsOfOne : Option (List ℕ) → Option (List ℕ) → Type 0
-IsOfOne None other = Unit {0}
-IsOfOne (Some line) None = Unit {0}
-IsOfOne (Some line) (Some other) = AreOfOne line other
+-- a line stands alone before the line that is next in the other text: there is none, or it is of no entity or of a later one than this line
+abbrev pub IsAlone : List ℕ → Option (List ℕ) → Type 0
+IsAlone line None = Unit {0}
+IsAlone line (Some next) = (index : ℕ) × IsOfEntity index line × ((later : ℕ) → IsOfEntity later next → index < later)
 
--- the rows have the lines of both texts, each once and in order, and what they tell is the text
+-- the lines of a row, by the lines that are next in both texts where it does not take them: two are of one entity, or of none, and one stands alone
+abbrev pub IsInPlace : Option (List ℕ) → Option (List ℕ) → Option (List ℕ) → Option (List ℕ) → Type 0
+IsInPlace None None next beside = Unit {0}
+IsInPlace (Some line) None next beside = IsAlone line beside
+IsInPlace None (Some other) next beside = IsAlone other next
+IsInPlace (Some line) (Some other) next beside = AreOfOne line other
+
+-- so it is with each row, by the lines of those behind it
+abbrev pub AreInPlace : List Row → Type 0
+AreInPlace [] = Unit {0}
+AreInPlace (row ∷ rows) = IsInPlace row.0 row.1 (slice_get (ones_of rows) 0) (slice_get (others_of rows) 0) × AreInPlace rows
+
+-- the rows have the lines of both texts, each once and in order, and what they tell is the text. Next lines of one entity stand together, and of two entities
+-- the earlier one's line comes first
 pub record AreRows (ones others : List (List ℕ)) (text : List ℕ) : Type 0 where
   pub rows : List Row
   pub left : ones_of rows ≡ ones
   pub right : others_of rows ≡ others
-  pub single : AllByRecursion (λ (row : Row). IsOfOne row.0 row.1) rows
+  pub placed : AreInPlace rows
   pub told : text ≡ flat_map row_text rows
 
 -- the text tells the lines in which two texts differ: `-` before those of the first, `+` before those of the second, and what it leaves out is the same in both

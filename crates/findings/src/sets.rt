@@ -1,9 +1,14 @@
 // The sets of a program file, and their members.
 
-ghost use Rattle.std.specs.Prelude.{◌≡◌, length, IfOk};
+ghost use Rattle.std.specs.Prelude.{◌≡◌, ◌+◌, ◌<◌, ◌≤◌, ◌^◌, ◌++◌, [], length, map, IfOk, OnOk};
+ghost use Rattle.findings.specs.Sets.{AreSetsOf, held_by, held_by_one, set_named};
+ghost use Rattle.model.specs.declarations.Declarations.{hierarchy_of, item_at};
+ghost use Rattle.model.specs.declarations.Refusals.{KnowsNames};
+ghost use Rattle.program.specs.Said.{declared_said, item_said};
 
 use program_file::{ItemTable, SystemTable};
 use std::alloc::{AllocError, Global};
+use system_set::{Members, SetHierarchy};
 
 /// The sets of a program file, by number: their names, and the systems that are in them, also in a set that is in them.
 #[derive(Drop)]
@@ -14,68 +19,133 @@ pub struct Sets<'a> {
     pub members: Vec<Vec<u32>>,
 }
 
-/// The sets of these tables, with their members among these systems: of each a name, and a list of members.
+// No schedule is built of more sets, or of more systems.
+const MOST_SETS: usize = 64;
+
+const MOST_SYSTEMS: usize = 256;
+
+/// The sets of these tables, with their members among these systems. Where there are more of either than a schedule may have none is looked at.
 pub fn sets_of<'a>(
     alloc: Global,
     sets: &[ItemTable<'a>],
     systems: &[SystemTable<'a>],
 ) -> Result<Sets<'a>, AllocError>
-    ensures names { IfOk result (λ found. length found.names.items ≡ length sets.now) }
-    ensures members { IfOk result (λ found. length found.members.items ≡ length sets.now) }
+    ensures { IfOk result (λ found. KnowsNames (declared_said sets.now systems.now [])
+        → length sets.now ≤ 64 → length systems.now ≤ 256
+        → AreSetsOf (declared_said sets.now systems.now []) found) }
 {
-    let mut names = Vec::with_capacity(alloc, sets.len())?;
-    let mut members = Vec::with_capacity(alloc, sets.len())?;
-    for set in sets {
-        names.push(set.name)?;
-        let within = sets_within(alloc, sets, set.name)?;
-        members.push(members_of(alloc, systems, within.as_slice())?)?;
+    if sets.len() > MOST_SETS || systems.len() > MOST_SYSTEMS {
+        return Ok(Sets {
+            names: Vec::new(alloc),
+            members: Vec::new(alloc),
+        });
     }
+    let hierarchy = hierarchy_from(alloc, sets, systems)?;
+    let mut names = Vec::with_capacity(alloc, sets.len())?;
+    let mut numbers = Vec::with_capacity(alloc, sets.len())?;
+    for number in 0..sets.len() {
+        names.push(sets[number].name)?;
+        numbers.push(number)?;
+    }
+    let lists = hierarchy.coverage(alloc, numbers.as_slice())?;
+    let members = members_of(alloc, lists.as_slice())?;
     Ok(Sets { names, members })
 }
 
-// The names of the sets that are in a set of this name, at any depth, with its own.
-fn sets_within<'a>(
-    alloc: Global,
-    sets: &[ItemTable<'a>],
-    name: &'a str,
-) -> Result<Vec<&'a str>, AllocError> {
-    let mut within = Vec::new(alloc);
-    within.push(name)?;
-    for _ in 0..sets.len() {
-        for set in sets {
-            if is_in_any(set.inside.as_slice(), within.as_slice())
-                && !has_name(within.as_slice(), set.name)
-            {
-                within.push(set.name)?;
-            }
-        }
-    }
-    Ok(within)
-}
-
-// The systems that are in a set of one of these names.
-fn members_of(
-    alloc: Global,
-    systems: &[SystemTable<'_>],
-    names: &[&str],
-) -> Result<Vec<u32>, AllocError> {
-    let mut members = Vec::new(alloc);
-    let mut number = 0u32;
-    for system in systems {
-        if is_in_any(system.item.inside.as_slice(), names) {
-            members.push(number)?;
-        }
-        number = number.saturating_add(1);
+// The numbers in these lists.
+fn members_of(alloc: Global, lists: &[Members]) -> Result<Vec<Vec<u32>>, AllocError>
+    ensures { IfOk result (λ members. map (λ numbers. numbers.items) members.items ≡ lists.now) }
+{
+    let mut members = Vec::with_capacity(alloc, lists.len())?;
+    for list in lists {
+        members.push(list.numbers().to_vec(alloc)?)?;
     }
     Ok(members)
 }
 
-// Whether one of these names is among others.
-fn is_in_any(inside: &[&str], names: &[&str]) -> bool {
-    inside.iter().any(|set| has_name(names, *set))
+// Which of these items are in which sets.
+fn hierarchy_from<'a>(
+    alloc: Global,
+    sets: &[ItemTable<'a>],
+    systems: &[SystemTable<'a>],
+) -> Result<SetHierarchy, AllocError>
+    requires { length sets.now + length systems.now < 2 ^ 32 }
+    ensures count { IfOk result (λ hierarchy. hierarchy.items
+        ≡ length sets.now + length systems.now) }
+    ensures declared { IfOk result (λ hierarchy. KnowsNames
+        (declared_said sets.now systems.now [])
+        → hierarchy ≡ hierarchy_of (declared_said sets.now systems.now [])) }
+{
+    let count = sets.len() + systems.len();
+    let mut hierarchy = SetHierarchy::new(alloc, sets.len(), systems.len());
+    for number in 0..count {
+        let item = item_of(&*sets, &*systems, number);
+        put_in(&mut hierarchy, &*sets, number, item.inside.as_slice())?;
+    }
+    Ok(hierarchy)
 }
 
-// Whether a name is among these.
-fn has_name(names: &[&str], name: &str) -> bool {
-    names.iter().any(|other| *other == name)
+// The item of a number.
+fn item_of<'t, 'a>(
+    sets: &'t [ItemTable<'a>],
+    systems: &'t [SystemTable<'a>],
+    number: usize,
+) -> &'t ItemTable<'a>
+    requires { number < length sets.now + length systems.now }
+    ensures { item_said result.now ≡ item_at (declared_said sets.now systems.now []) number }
+{
+    if number < sets.len() {
+        &sets[number]
+    } else {
+        &systems[number - sets.len()].item
+    }
+}
+
+// Puts an item into each of the sets of these names that there is.
+fn put_in(
+    hierarchy: &mut SetHierarchy,
+    sets: &[ItemTable<'_>],
+    item: usize,
+    names: &[&str],
+) -> Result<(), AllocError>
+    requires sets { hierarchy.old.sets ≡ length sets.now }
+    requires known { item < hierarchy.old.items }
+    ensures { OnOk result (hierarchy.new
+        ≡ record hierarchy.old {
+          inside = hierarchy.old.inside
+              ++ held_by sets.now item (map (λ name. name.now) names.now);
+        }) }
+{
+    for name in names {
+        put_in_one(hierarchy, sets, item, *name)?;
+    }
+    Ok(())
+}
+
+// Puts an item into the set of a name, where there is one.
+fn put_in_one(
+    hierarchy: &mut SetHierarchy,
+    sets: &[ItemTable<'_>],
+    item: usize,
+    name: &str,
+) -> Result<(), AllocError>
+    requires sets { hierarchy.old.sets ≡ length sets.now }
+    requires known { item < hierarchy.old.items }
+    ensures { OnOk result (hierarchy.new
+        ≡ record hierarchy.old {
+          inside = hierarchy.old.inside ++ held_by_one sets.now item name.now;
+        }) }
+{
+    let Some(set) = set_named(sets, name) else {
+        return Ok(());
+    };
+    hierarchy.put(item, set)?;
+    Ok(())
+}
+
+// The number of the first set of a name, where there is one.
+fn set_named(sets: &[ItemTable<'_>], name: &str) -> Option<usize>
+    ensures { result ≡ set_named sets.now name.now }
+{
+    sets.iter().position(|set| set.name == name)
 }

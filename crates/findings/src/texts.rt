@@ -3,7 +3,7 @@
 ghost use Rattle.std.specs.Prelude.{◌≡◌, ◌≢◌, ◌≤◌, ◌<◌, ◌+◌, ◌||◌, ◌++◌, ℕ, List, true, false, length, map, slice_get, option_map, option_to_list, is_some, IfSome, IfNone, IfOk, OnOk, string_bytes};
 ghost use Rattle.std.specs.Str.Lines.{lines};
 ghost use Rattle.findings.specs.Apart.{IsFirstApart};
-ghost use Rattle.findings.specs.Texts.{AreRows, IsApart, IsApartBy, IsDifference, IsOfEntity, IsOfOne, IsPartingText, IsSideOf, IsWitnessText, agreement_line, apart_text, is_same, left_text, line_at, marked_line, orders_text, pair_text, place_line, row_text, step_or_none};
+ghost use Rattle.findings.specs.Texts.{AreRows, IsApart, IsApartBy, IsDifference, IsInPlace, IsOfEntity, IsPartingText, IsSideOf, IsWitnessText, agreement_line, apart_text, is_same, left_text, line_at, marked_line, orders_text, pair_text, place_line, row_text, step_or_none};
 
 use crate::diverging::{Parting, Place};
 use crate::witness::{RunOutcome, Witness};
@@ -343,8 +343,9 @@ fn row_of<'a>(line: Option<&'a str>, other: Option<&'a str>) -> (Option<&'a str>
     ensures two { IsSideOf other.entry result.1 }
     ensures some { is_some line.entry || is_some other.entry ≡ true
         → is_some result.0 || is_some result.1 ≡ true }
-    ensures single { IsOfOne (option_map (λ line. line.now) result.0) (option_map (λ line. line.now)
-        result.1) }
+    ensures placed { IsInPlace (option_map (λ line. line.now) result.0)
+        (option_map (λ line. line.now) result.1) (option_map (λ line. line.now) line.entry)
+        (option_map (λ line. line.now) other.entry) }
 {
     match (line, other) {
         (Some(one), Some(two)) => row_of_both(one, two),
@@ -357,8 +358,8 @@ fn row_of_both<'a>(one: &'a str, two: &'a str) -> (Option<&'a str>, Option<&'a s
     ensures one { IsSideOf (Some one.entry) result.0 }
     ensures two { IsSideOf (Some two.entry) result.1 }
     ensures some { is_some result.0 || is_some result.1 ≡ true }
-    ensures single { IsOfOne (option_map (λ line. line.now) result.0) (option_map (λ line. line.now)
-        result.1) }
+    ensures placed { IsInPlace (option_map (λ line. line.now) result.0)
+        (option_map (λ line. line.now) result.1) (Some one.now) (Some two.now) }
 {
     match (entity_of(one), entity_of(two)) {
         (None, Some(_)) => (None, Some(two)),

@@ -66,3 +66,14 @@ next-noted width s z bodies others w middle w' m n k recorded old new gs same_sc
   kept = kept noted.traces noted.many noted.kept;
   there = there;
 }
+
+-- all runs ended, and their record may be written
+pub noted_all : (width : ℕ) (s : Schedule) (bodies : List BodyMeaning) (w w' : State) (k times : ℕ) (recorded : Bool) (text : String Global) → k ≡ times → HaveKept width s bodies w k recorded w' (Some text)
+    → HaveNoted width s bodies w times recorded w' (string_bytes text)
+noted_all width s bodies w w' k times recorded text all kept = record { traces = kept.traces; many = kept.many ∙ all; runs = kept.runs; kept = kept.kept }
+
+-- or it is too long, as it is recorded
+pub noted_long : (width : ℕ) (s : Schedule) (bodies : List BodyMeaning) (w w' : State) (k times : ℕ) (recorded : Bool) → k ≡ times → HaveKept width s bodies w k recorded w' None
+    → (recorded ≡ true) × IsRecordTooLong width s bodies w times
+noted_long width s bodies w w' k times true all kept = (refl, record { traces = kept.traces; many = kept.many ∙ all; final = w'; runs = kept.runs; beyond = kept.kept refl })
+noted_long width s bodies w w' k times false all kept = absurd (false≢true (kept.there false≢true))

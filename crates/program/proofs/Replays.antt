@@ -6,11 +6,18 @@ use Rattle.std.specs.List.{AllByRecursion}
 use Rattle.model.specs.shown.Outcome.{BodyMeaning}
 use Rattle.model.specs.state.State.{State}
 use Rattle.model.specs.steps.Schedule.{Schedule, Recorded, recording}
+use Rattle.engine.specs.Stops.{IsReportedAs}
+use Rattle.engine.specs.declared.faults.RunFault.TheVariants as stop
+use Rattle.trace_checker.specs.ReplayFaults.{IsReplayFault}
+use Rattle.trace_checker.specs.declared.replay.ReplayFault.{ReplayFault}
+use Rattle.trace_checker.specs.declared.replay.ReplayFault.TheVariants as replay
 use Rattle.trace_checker.specs.declared.line.Line.{Line}
 use Rattle.trace_checker.specs.Grammar.{AreFitting, IsFitting, history_lines, lines_from}
+use Rattle.model.specs.runs.Causes.{Cause}
+use Rattle.model.specs.runs.Causes.{Cause as cause}
 use Rattle.model.specs.runs.Replays.{IsReplayed}
 use Rattle.program.specs.declared.fault.Fault.{Fault}
-use Rattle.program.specs.Replayed.{AreReplayed, IsRefusedAmong, IsRefusedRun}
+use Rattle.program.specs.Replayed.{AreReplayed, IsOfReplay, IsRefusedAmong, IsRefusedRun, fault_of_replay}
 
 -- ---- one run more
 
@@ -46,6 +53,45 @@ refused-next s bodies others start middle runs i number r fault known at same pl
   refused = subst (λ n. IsRefusedRun s bodies middle r n fault) (let so_far = length-take-le i runs (omega arith) in omega arith)
       (subst (λ bs. IsRefusedRun s bs middle r number fault) same refused);
 }
+
+-- ---- what is told of it
+
+-- a replay is stopped so
+pub stops_so : (s : Schedule) (bodies : List BodyMeaning) (w : State) (r : Recorded) (fault : ReplayFault) → IsReplayFault s bodies w r fault → IsOfReplay fault
+stops_so s bodies w r (replay.Bad step fault) is = tt
+stops_so s bodies w r replay.Unfinished is = tt
+stops_so s bodies w r (replay.WrongAnswer step) is = tt
+stops_so s bodies w r (replay.WrongSets step) is = tt
+stops_so s bodies w r (replay.Run stop.Memory) is = tt
+stops_so s bodies w r (replay.Run stop.ClockSpent) is = tt
+stops_so s bodies w r (replay.Run stop.IdsSpent) is = tt
+stops_so s bodies w r (replay.Run (stop.BodyFault refusal)) is = tt
+stops_so s bodies w r (replay.Run stop.NoWorker) is = no-worker is.1.0 is.1.1 where
+  no-worker : (met : Cause) → IsReportedAs met stop.NoWorker → ⊥
+  no-worker cause.NoTick h = h
+  no-worker cause.NoIds h = h
+  no-worker cause.NoEventNumber h = h
+  no-worker (cause.Refused n) h = h
+stops_so s bodies w r (replay.Run stop.Spoiled) is = not-spoiled is.1.0 is.1.1 where
+  not-spoiled : (met : Cause) → IsReportedAs met stop.Spoiled → ⊥
+  not-spoiled cause.NoTick h = h
+  not-spoiled cause.NoIds h = h
+  not-spoiled cause.NoEventNumber h = h
+  not-spoiled (cause.Refused n) h = h
+
+-- and that is told
+pub refused_as : (s : Schedule) (bodies : List BodyMeaning) (w : State) (r : Recorded) (number : ℕ) (fault : ReplayFault) → IsOfReplay fault → IsReplayFault s bodies w r fault
+    → IsRefusedRun s bodies w r number (fault_of_replay number fault)
+refused_as s bodies w r number (replay.Bad step fault) so is = (refl, is)
+refused_as s bodies w r number replay.Unfinished so is = (refl, is)
+refused_as s bodies w r number (replay.WrongAnswer step) so is = (refl, is)
+refused_as s bodies w r number (replay.WrongSets step) so is = (refl, is)
+refused_as s bodies w r number (replay.Run stop.Memory) so is = tt
+refused_as s bodies w r number (replay.Run stop.ClockSpent) so is = is
+refused_as s bodies w r number (replay.Run stop.IdsSpent) so is = is
+refused_as s bodies w r number (replay.Run (stop.BodyFault refusal)) so is = (refusal, is)
+refused_as s bodies w r number (replay.Run stop.NoWorker) so is = absurd so
+refused_as s bodies w r number (replay.Run stop.Spoiled) so is = absurd so
 
 -- ---- their number
 

@@ -54,6 +54,12 @@ fault_of_read read.TooLong = TooLong
 fault_of_read read.Failed = File
 fault_of_read read.Memory = Memory
 
+-- what is told where a trace is not read to its end
+abbrev pub fault_of_trace : ReadFault → Fault
+fault_of_trace read.TooLong = TraceTooLong
+fault_of_trace read.Failed = File
+fault_of_trace read.Memory = Memory
+
 -- what is told where the program file is refused; a failed allocation is no fault of the file
 abbrev pub fault_of_file : FileFault → Fault
 fault_of_file file.Memory = Memory

@@ -6,9 +6,9 @@ use Rattle.command_line.specs.declared.args.LineFault.TheVariants.{Help, Usage, 
 use Rattle.program.specs.declared.fault.Fault.TheVariants.{Write}
 use Rattle.program.specs.Served.{HasGained, HasGainedFront, IsKept, Tells}
 
--- help was printed, and nothing is told; or the output failed, which is told, and gained a beginning of the help
-abbrev pub IsHelp : List ℕ → ℕ → (Option (List ℕ) × Option (List ℕ)) → (Option (List ℕ) × Option (List ℕ)) → Type 0
-IsHelp text status out faults = ((status ≡ 0) × HasGained out text × IsKept faults) ⊎ (HasGainedFront out text × Tells Write status faults)
+-- a text that is asked for, such as help, was printed, and nothing is told; or the output failed, which is told, and gained a beginning of the text
+abbrev pub IsAskedText : List ℕ → ℕ → (Option (List ℕ) × Option (List ℕ)) → (Option (List ℕ) × Option (List ℕ)) → Type 0
+IsAskedText text status out faults = ((status ≡ 0) × HasGained out text × IsKept faults) ⊎ (HasGainedFront out text × Tells Write status faults)
 
 -- what is at fault was told, or a beginning of that, and nothing is printed
 abbrev pub IsReportedOf : LineFault → ℕ → (Option (List ℕ) × Option (List ℕ)) → (Option (List ℕ) × Option (List ℕ)) → Type 0
@@ -16,6 +16,6 @@ IsReportedOf fault status out faults = (status ≡ line_status_of fault) × IsKe
 
 -- help goes to the output, and all else to the standard error
 abbrev pub IsLineReported : LineFault → ℕ → (Option (List ℕ) × Option (List ℕ)) → (Option (List ℕ) × Option (List ℕ)) → Type 0
-IsLineReported (Help text) status out faults = IsHelp (string_bytes text) status out faults
+IsLineReported (Help text) status out faults = IsAskedText (string_bytes text) status out faults
 IsLineReported (Usage text) status out faults = IsReportedOf (Usage text) status out faults
 IsLineReported Memory status out faults = IsReportedOf Memory status out faults

@@ -4,6 +4,7 @@ use Rattle.model.specs.shown.Outcome.{BodyMeaning}
 use Rattle.model.specs.state.State.{State}
 use Rattle.model.specs.steps.Schedule.{Schedule, Recorded, recording}
 use Rattle.engine.specs.declared.faults.RunFault.TheVariants as stop
+use Rattle.trace_checker.specs.declared.replay.ReplayFault.{ReplayFault}
 use Rattle.trace_checker.specs.declared.replay.ReplayFault.TheVariants as replay
 use Rattle.trace_checker.specs.Grammar.{AreFitting, trace_text}
 use Rattle.model.specs.runs.Replays.{IsReplayed}
@@ -31,6 +32,23 @@ pub record IsTextOfReplay (s : Schedule) (bodies : List BodyMeaning) (start : St
   pub same : text ≡ world_text (length runs) final
 
 -- ---- a run that is refused
+
+-- a replay stops so: it has no workers, and no engine that an earlier run spoiled
+abbrev pub IsOfReplay : ReplayFault → Type 0
+IsOfReplay (replay.Run stop.NoWorker) = ⊥
+IsOfReplay (replay.Run stop.Spoiled) = ⊥
+IsOfReplay fault = Unit {0}
+
+-- what is told then of a recorded run, the one of this number
+abbrev pub fault_of_replay : ℕ → ReplayFault → Fault
+fault_of_replay run (replay.Bad step fault) = BadStep run step fault
+fault_of_replay run replay.Unfinished = UnfinishedRun run
+fault_of_replay run (replay.WrongAnswer step) = WrongAnswer run step
+fault_of_replay run (replay.WrongSets step) = WrongSets run step
+fault_of_replay run (replay.Run stop.ClockSpent) = ClockSpent
+fault_of_replay run (replay.Run stop.IdsSpent) = IdsSpent
+fault_of_replay run (replay.Run (stop.BodyFault refusal)) = BodyRefused
+fault_of_replay run (replay.Run fault) = Memory
 
 -- what is told of a recorded run, the one of this number, which is not replayed from a state
 abbrev pub IsRefusedRun : Schedule → List BodyMeaning → State → Recorded → ℕ → Fault → Type 0

@@ -5,6 +5,7 @@ ghost use Rattle.std.specs.List.{list_all};
 ghost use Rattle.trace_checker.specs.Grammar.{AreFitting, trace_text};
 ghost use Rattle.trace_checker.specs.Verdicts.{is_complete};
 ghost use Rattle.program.specs.Checked.{IsCheckOf};
+ghost use Rattle.program.specs.Fault.{fault_of_trace};
 ghost use Rattle.program.specs.Refused.{IsTraceUnread};
 ghost use Rattle.program.specs.Said.{IsShortTrace};
 
@@ -55,10 +56,20 @@ pub fn traces_of<T: Read>(alloc: Global, trace: &mut T) -> Result<Vec<Trace>, Fa
 {
     let bytes = match read_whole(alloc, trace, MOST_TRACE_BYTES) {
         Ok(bytes) => bytes,
-        Err(ReadFault::TooLong) => return Err(Fault::TraceTooLong),
-        Err(fault) => return Err(Fault::from(fault)),
+        Err(fault) => return Err(fault_of_trace(fault)),
     };
     Ok(read_traces(alloc, bytes.as_slice())?)
+}
+
+// What is told where a trace is not read to its end.
+fn fault_of_trace(fault: ReadFault) -> Fault
+    ensures { result ≡ fault_of_trace fault }
+{
+    match fault {
+        ReadFault::TooLong => Fault::TraceTooLong,
+        ReadFault::Failed => Fault::File,
+        ReadFault::Memory => Fault::Memory,
+    }
 }
 
 // Whether all runs are complete.

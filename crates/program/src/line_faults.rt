@@ -1,6 +1,6 @@
 // What is printed for a command line that asks for no work.
 
-ghost use Rattle.program.specs.LineReported.{IsHelp, IsLineReported};
+ghost use Rattle.program.specs.LineReported.{IsAskedText, IsLineReported};
 
 use crate::fault::Fault;
 use crate::serve::{tell, tell_line};
@@ -24,7 +24,7 @@ pub fn tell_line_fault<O: Write, E: Write>(
     ) }
 {
     match fault {
-        LineFault::Help(text) => print_help(alloc, out, faults, text.as_str()),
+        LineFault::Help(text) => print_asked(alloc, out, faults, text.as_str()),
         LineFault::Usage(_) | LineFault::Memory => {
             tell_line(faults, fault.text());
             fault.status()
@@ -32,9 +32,10 @@ pub fn tell_line_fault<O: Write, E: Write>(
     }
 }
 
-// Prints help, and gives the exit status.
-fn print_help<O: Write, E: Write>(alloc: Global, out: &mut O, faults: &mut E, text: &str) -> u8
-    ensures { IsHelp text.now result (O.contents out.old, O.contents out.new) (
+/// Prints a text that a command line asks for in place of work, such as help, and gives the exit status. Where it can't be written that is
+/// reported as a failure of the output is.
+pub fn print_asked<O: Write, E: Write>(alloc: Global, out: &mut O, faults: &mut E, text: &str) -> u8
+    ensures { IsAskedText text.now result (O.contents out.old, O.contents out.new) (
       E.contents
           faults.old,
       E.contents faults.new,

@@ -8,7 +8,7 @@ ghost use Rattle.model.specs.runs.Replays.{IsReplayed};
 ghost use Rattle.model.specs.steps.Schedule.{recording};
 ghost use Rattle.program.specs.Load.{entity_given};
 ghost use Rattle.program.specs.Refused.{IsUnreplayed, IsUngiven};
-ghost use Rattle.program.specs.Replayed.{AreReplayed, IsRefusedAmong, IsRefusedRun, IsTextOfReplay};
+ghost use Rattle.program.specs.Replayed.{AreReplayed, IsOfReplay, IsRefusedAmong, IsRefusedRun, IsTextOfReplay, fault_of_replay};
 ghost use Rattle.program.specs.Setup.{AreScriptsOf, meanings_of_scripts, script_suits};
 
 use crate::answer::Answer;
@@ -108,15 +108,25 @@ pub fn replay_run(
 {
     match replay(alloc, built, bodies, state, trace) {
         Ok(left) => Ok(left),
-        Err(ReplayFault::Bad(step, fault)) => Err(Fault::BadStep { run, step, fault }),
-        Err(ReplayFault::Unfinished) => Err(Fault::UnfinishedRun { run }),
-        Err(ReplayFault::WrongAnswer(step)) => Err(Fault::WrongAnswer { run, step }),
-        Err(ReplayFault::WrongSets(step)) => Err(Fault::WrongSets { run, step }),
-        Err(ReplayFault::Run(RunFault::Memory)) => Err(Fault::Memory),
-        Err(ReplayFault::Run(RunFault::ClockSpent)) => Err(Fault::ClockSpent),
-        Err(ReplayFault::Run(RunFault::IdsSpent)) => Err(Fault::IdsSpent),
-        Err(ReplayFault::Run(RunFault::BodyFault(_))) => Err(Fault::BodyRefused),
-        Err(ReplayFault::Run(RunFault::NoWorker)) => unreachable!(),
-        Err(ReplayFault::Run(RunFault::Spoiled)) => unreachable!(),
+        Err(fault) => Err(fault_of_replay(fault, run)),
+    }
+}
+
+// What is told of the recorded run of this number, whose replay stops so.
+fn fault_of_replay(fault: ReplayFault, run: usize) -> Fault
+    requires { IsOfReplay fault }
+    ensures { result ≡ fault_of_replay run fault }
+{
+    match fault {
+        ReplayFault::Bad(step, fault) => Fault::BadStep { run, step, fault },
+        ReplayFault::Unfinished => Fault::UnfinishedRun { run },
+        ReplayFault::WrongAnswer(step) => Fault::WrongAnswer { run, step },
+        ReplayFault::WrongSets(step) => Fault::WrongSets { run, step },
+        ReplayFault::Run(RunFault::Memory) => Fault::Memory,
+        ReplayFault::Run(RunFault::ClockSpent) => Fault::ClockSpent,
+        ReplayFault::Run(RunFault::IdsSpent) => Fault::IdsSpent,
+        ReplayFault::Run(RunFault::BodyFault(_)) => Fault::BodyRefused,
+        ReplayFault::Run(RunFault::NoWorker) => unreachable!(),
+        ReplayFault::Run(RunFault::Spoiled) => unreachable!(),
     }
 }

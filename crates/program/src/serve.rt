@@ -1,6 +1,6 @@
 // The work of a command line, on readers and writers.
 
-ghost use Rattle.std.specs.Prelude.{◌≡◌, ◌∷◌, [], map, length, string_bytes, IfOk, IfErr, IfSome, Some, OnOk, IsFalse};
+ghost use Rattle.std.specs.Prelude.{◌≡◌, ◌∷◌, [], map, length, string_bytes, IfOk, IfErr, IfSome, None, Some, OnOk, IsFalse};
 ghost use Rattle.archetype_store.specs.Layout.{AreAllHome};
 ghost use Rattle.engine.specs.Meanings.{meanings};
 ghost use Rattle.program.specs.Fault.{fault_text};
@@ -202,10 +202,19 @@ fn run_times<'s, M: Mode<'s>>(
         }
         done += count;
     }
-    let Some(text) = text else {
-        return Err(Fault::TraceTooLong);
-    };
-    Ok(text)
+    let noted = kept_text(text)?;
+    Ok(noted)
+}
+
+// What is kept of a record. A record of which nothing is kept is too long, and no other fault is told of it.
+fn kept_text(text: Option<String>) -> Result<String, Fault>
+    ensures kept { IfOk result (λ noted. text ≡ Some noted) }
+    ensures long { IfErr result (λ fault. (fault ≡ Fault.TraceTooLong) × (text ≡ None)) }
+{
+    match text {
+        Some(text) => Ok(text),
+        None => Err(Fault::TraceTooLong),
+    }
 }
 
 // Runs a schedule so many times.

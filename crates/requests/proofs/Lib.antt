@@ -3,4 +3,5 @@ mod FieldTexts
 mod ComponentTexts
 mod ArgumentTexts
 mod Lines
+mod FirstWords
 pub mod Widths

@@ -4,3 +4,4 @@ pub mod Grammar
 pub mod Parts
 pub mod Faults
 pub mod Widths
+pub mod Load

@@ -1,5 +1,6 @@
 // Lines, and what they ask for.
 
+use crate::load::read_load;
 use crate::reading::read_request;
 use crate::request::{Request, RequestFault};
 use body::Input;
@@ -142,6 +143,32 @@ fn lines_ask_for_this(rt: HostRuntime) -> Result<(), Fail> {
             Err(RequestFault::Memory) => String::from_str(alloc, "memory")?,
         };
         assert_eq!(rt; told.as_str(), want, "at {line}");
+    }
+    Ok(())
+}
+
+// Lines, and what they ask to load, if they do: how many lines, and whether of any program file.
+const LOADS: [(&str, Option<(u32, bool)>); 10] = [
+    ("load 3", Some((3, false))),
+    ("  load   003  anyway ", Some((3, true))),
+    ("load 0", Some((0, false))),
+    ("load 4294967295", Some((4_294_967_295, false))),
+    ("load 4294967296", None),
+    ("load", None),
+    ("load 3 4", None),
+    ("load 3 anyway anyway", None),
+    ("loads 3", None),
+    ("save", None),
+];
+
+#[test]
+fn loads_are_read(rt: HostRuntime) -> Result<(), Fail> {
+    for (line, wanted) in &LOADS {
+        let found = match read_load(line) {
+            Some(load) => Some((load.lines, load.anyway)),
+            None => None,
+        };
+        assert!(rt; found == *wanted, "{line}");
     }
     Ok(())
 }

@@ -8,3 +8,8 @@ mod MarksAlike
 mod Playing
 mod Ready
 mod Taken
+mod BodyLines
+mod NamedFiles
+mod LoadedTexts
+mod LoadReplies
+mod LoadTurns

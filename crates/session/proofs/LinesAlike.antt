@@ -18,7 +18,7 @@ use Rattle.session.specs.Answers.{IsAnswer}
 use Rattle.session.specs.Live.{Live, meant_in}
 use Rattle.session.specs.Lockstep.{LineKeepsLockstep, LinesKeepLockstep, OneLineAgrees, PlaysAgree, is_undisturbed}
 use Rattle.session.specs.Plays.{IsAnswered, IsExchange, IsReplied, IsUnasked, Plays, Sent, is_quit}
-use Rattle.session.specs.Plays.Sent.{Line, TooLong}
+use Rattle.session.specs.Plays.Sent.{Line, TooLong, Loads}
 use Rattle.session.specs.Replies.{reply_text}
 use Rattle.session.specs.declared.reply.Refusal.TheVariants as refusal
 use Rattle.session.specs.declared.reply.Reply.{Reply}
@@ -89,9 +89,10 @@ module _ {B C : Type 0} (meaning : B → Params → BodyMeaning) (other_meaning 
       IsExchange meaning scope width one line reply last one' → IsExchange other_meaning other_scope other_width other line other_reply other_last other' →
       (reply_text reply ≡ reply_text other_reply) × (last ≡ other_last) × AreInStep meaning other_meaning s bodies one' other'
   sent_alike scope other_scope width other_width (Line line) one one' other other' reply other_reply last other_last built settled within both keeps calm other_calm h g =
-      replied_alike scope other_scope width other_width line one one' other other' reply other_reply last other_last built settled within both keeps calm other_calm h g
+      replied_alike scope other_scope width other_width line one one' other other' reply other_reply last other_last built settled within both keeps calm other_calm h.1 g.1
   sent_alike scope other_scope width other_width (TooLong line) one one' other other' reply other_reply last other_last built settled within both keeps calm other_calm h g =
       (ap reply_text (h.0 ∙ sym g.0), h.1 ∙ sym g.1, subst₂ (AreInStep meaning other_meaning s bodies) (sym h.2) (sym g.2) both)
+  sent_alike scope other_scope width other_width (Loads line text) one one' other other' reply other_reply last other_last built settled within both keeps calm other_calm h g = absurd keeps
 
   -- ---- lines
 

@@ -174,13 +174,7 @@ module _ {B : Type 0} where
   -- where the state is there, it isn't what a request is refused for
   refused_there : (old : Live B) (request : Asked) (why : Refusal) → is_lost old ≡ false → IsRefusedFor old request why → IsRefused old request why
   refused_there old request refusal.Lost there h = absurd (both_ways (is_lost old) there h.0)
-  refused_there old request refusal.ClockSpent there h = h
-  refused_there old request refusal.IdsSpent there h = h
-  refused_there old request refusal.NoMark there h = h
-  refused_there old request refusal.ManyMarks there h = h
-  refused_there old request refusal.Unknown there h = h
-  refused_there old request refusal.TooLong there h = h
-  refused_there old request refusal.Query there h = h
+  refused_there old request _ there h = h
 
 -- an input that can be taken has no cause
 taken_in : (put : inputs.Input) (w : State) (cause : Cause) → can_input put w ≡ true → cause_of_input put w ≡ Some cause → ⊥

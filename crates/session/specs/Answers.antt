@@ -14,10 +14,11 @@ use Rattle.engine.specs.RunsAs.{RunsAs}
 use Rattle.engine.specs.Stops.{StopsAs}
 use Rattle.engine.specs.declared.faults.RunFault.{RunFault}
 use Rattle.requests.specs.Asked.{Asked}
-use Rattle.requests.specs.Asked.Asked.{Hello, Run, Put, Mark, Back, Forget, Quit}
+use Rattle.requests.specs.Asked.Asked.{Hello, Run, Put, Mark, Back, Forget, Quit, Save}
 use Rattle.session.specs.Live.{Live, with_engine, with_marks, is_lost, state_in, clock_in, meant_in}
 use Rattle.session.specs.Looks.{seen_by}
 use Rattle.session.specs.Marks.{can_keep, is_kept, kept_at, with_mark, without}
+use Rattle.session.specs.Saved.{saved_text}
 use Rattle.session.specs.Replies.{shown_text, id_line, changed_line}
 use Rattle.session.specs.declared.reply.Refusal.{Refusal}
 use Rattle.session.specs.declared.reply.Refusal.TheVariants as refusal
@@ -41,6 +42,7 @@ pub record Stays {B : Type 0} (meaning : B → Params → BodyMeaning) (old new 
   pub schedule : new.engine.schedule ≡ old.engine.schedule
   pub meant : meant_in meaning new ≡ meant_in meaning old
   pub marks : new.marks ≡ old.marks
+  pub file : new.file ≡ old.file
   pub greeting : new.greeting ≡ old.greeting
 
 -- so many runs lead from the one state to the other
@@ -94,6 +96,7 @@ IsDone meaning width old (Mark name) shown new = (shown ≡ []) × HasMarked nam
 IsDone meaning width old (Back name) shown new = (shown ≡ []) × HasGoneBack name old new
 IsDone meaning width old (Forget name) shown new = (shown ≡ []) × (is_kept name old.marks ≡ true) × (new ≡ with_marks (without name old.marks) old)
 IsDone meaning width old Quit shown new = (shown ≡ []) × (new ≡ old)
+IsDone meaning width old Save shown new = HasLooked old new shown (saved_text old.file (state_in old))
 IsDone meaning width old look shown new = HasLooked old new shown (seen_by look (state_in old))
 
 -- ---- what is refused

@@ -5,3 +5,5 @@ pub mod Looks
 pub mod Answers
 pub mod Plays
 pub mod Lockstep
+pub mod Saved
+pub mod Body

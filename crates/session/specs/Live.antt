@@ -9,26 +9,27 @@ use Rattle.body.specs.contracts.state.State as state
 use Rattle.engine.specs.EngineValue.{EngineValue, engine_code}
 use Rattle.engine.specs.Meanings.{AreFit, LacksMemories, meanings}
 
--- the engine, the states that are kept by name, and the lines with which a host is greeted
+-- the engine, the states that are kept by name, the SHA-256 digest of the program file, and the lines with which a host is greeted
 pub record Live (B : Type 0) : Type 0 where
   pub engine : EngineValue B
   pub marks : List (List ℕ × State)
+  pub file : List ℕ
   pub greeting : List ℕ
 
 -- it is stored as the tuple of its parts
 abbrev pub live_code : {B : Type 0} → Coded B → Coded (Live B)
-live_code {B} body = code_by (EngineValue B × (List (List ℕ × State) × List ℕ))
-    (coded× (engine_code body) (coded× (coded_list (coded× (coded_list coded_ℕ) state.the_row.coded)) (coded_list coded_ℕ)))
-    (λ l. (l.engine, (l.marks, l.greeting)))
-    (λ p. record { engine = p.0; marks = p.1.0; greeting = p.1.1 })
+live_code {B} body = code_by (EngineValue B × (List (List ℕ × State) × (List ℕ × List ℕ)))
+    (coded× (engine_code body) (coded× (coded_list (coded× (coded_list coded_ℕ) state.the_row.coded)) (coded× (coded_list coded_ℕ) (coded_list coded_ℕ))))
+    (λ l. (l.engine, (l.marks, (l.file, l.greeting))))
+    (λ p. record { engine = p.0; marks = p.1.0; file = p.1.1.0; greeting = p.1.1.1 })
     (λ _. refl)
 
 -- with another engine, and with other states kept
 abbrev pub with_engine : {B : Type 0} → EngineValue B → Live B → Live B
-with_engine engine l = record { engine = engine; marks = l.marks; greeting = l.greeting }
+with_engine engine l = record { engine = engine; marks = l.marks; file = l.file; greeting = l.greeting }
 
 abbrev pub with_marks : {B : Type 0} → List (List ℕ × State) → Live B → Live B
-with_marks marks l = record { engine = l.engine; marks = marks; greeting = l.greeting }
+with_marks marks l = record { engine = l.engine; marks = marks; file = l.file; greeting = l.greeting }
 
 -- whether its state is lost
 abbrev pub is_lost : {B : Type 0} → Live B → Bool

@@ -20,7 +20,7 @@ use Rattle.requests.specs.Widths.{AskedHasWidths}
 use Rattle.session.specs.Answers.{IsAnswer}
 use Rattle.session.specs.Live.{Live, is_lost, meant_in, state_in}
 use Rattle.session.specs.Plays.{IsExchange, Plays, Sent}
-use Rattle.session.specs.Plays.Sent.{Line, TooLong}
+use Rattle.session.specs.Plays.Sent.{Line, TooLong, Loads}
 use Rattle.session.specs.Replies.{reply_text}
 use Rattle.session.specs.declared.reply.Reply.{Reply}
 use Rattle.session.specs.declared.reply.Reply.TheVariants.{Failed, Lost}
@@ -122,6 +122,7 @@ RepliesAgree {B} {C} meaning other_meaning = (scope other_scope : Bool) (width o
 abbrev pub LineKeepsLockstep : {B : Type 0} → Live B → Sent → Type 0
 LineKeepsLockstep live (Line line) = IsUtf8 line × ((asked : Asked) → IsRequest asked line → (is_told_alike asked ≡ true) × KeepsLockstep live asked)
 LineKeepsLockstep live (TooLong line) = Unit {0}
+LineKeepsLockstep live (Loads line text) = ⊥
 
 -- each of these does where it is read
 abbrev pub LinesKeepLockstep : {B : Type 0} (meaning : B → Params → BodyMeaning) (scope : Bool) (width : ℕ) (old : Live B) (lines : List Sent) (replies : List Reply) (new : Live B) → Plays meaning scope width old lines replies new → Type 0

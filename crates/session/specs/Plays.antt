@@ -1,16 +1,20 @@
 -- Sessions as a host sees them: lines that are sent, and their replies.
-use Rattle.std.specs.Prelude.{ℕ, ◌≡◌, ◌⊎◌, Bool, true, false, List, [], ◌∷◌, ◌++◌, flat_map, Option, Some, None, Result, Ok, Err, IfSome}
+use Rattle.std.specs.Prelude.{ℕ, ◌≡◌, ◌<◌, ◌⊎◌, Bool, true, false, List, [], ◌∷◌, ◌++◌, length, flat_map, Option, Some, None, Result, Ok, Err, IfSome}
 use Rattle.std.specs.Io.KnownBytes.{Appends, Consumes, Keeps}
 use Rattle.std.specs.Str.{IsUtf8}
 use Rattle.model.specs.access.Access.{Params}
 use Rattle.model.specs.shown.Outcome.{BodyMeaning}
-use Rattle.parsing.specs.Reads.{SpellsOnly}
+use Rattle.parsing.specs.Reads.{SpellsNone, SpellsOnly}
 use Rattle.requests.specs.Asked.{Asked}
 use Rattle.requests.specs.Asked.Asked.{Quit}
 use Rattle.requests.specs.Faults.{IsRequestFault}
 use Rattle.requests.specs.Grammar.{IsRequest}
 use Rattle.requests.specs.declared.request.RequestFault.TheVariants as fault
+use Rattle.requests.specs.Load.{IsLoad}
+use Rattle.requests.specs.declared.load.Load.{Load}
 use Rattle.session.specs.Answers.{IsAnswer}
+use Rattle.session.specs.Body.{AreFewer, AreLines, most_body_bytes}
+use Rattle.session.specs.Saved.{IsLoadAnswer}
 use Rattle.session.specs.Live.{Live}
 use Rattle.session.specs.Replies.{reply_text}
 use Rattle.session.specs.declared.play.PlayFault.{PlayFault}
@@ -49,14 +53,31 @@ abbrev pub IsReplied : {B : Type 0} → (B → Params → BodyMeaning) → Bool 
 IsReplied meaning scope width old line reply last new =
     IsAnswered meaning scope width old line reply last new ⊎ (IsUnasked line reply × (last ≡ false) × (new ≡ old))
 
--- what a host sends: a line within the limit, or one that is too long
+-- what a host sends: a line within the limit, one that is too long, or one that asks to load and the lines that follow it
 pub data Sent : Type 0 where
   Line TooLong : List ℕ → Sent
+  Loads : (line : List ℕ) → (text : List ℕ) → Sent
+
+-- the reply to a line that asks to load, and to the lines that follow it. Too many bytes are refused, and an allocation may fail at any time
+abbrev pub IsLoadReply : {B : Type 0} → Live B → Load → List ℕ → Reply → Live B → Type 0
+IsLoadReply old load text (Refused refusal.LongText) new = (most_body_bytes < length text) × (new ≡ old)
+IsLoadReply old load text reply new = IsLoadAnswer old load text reply new
+
+pub record HasAskedToLoad {B : Type 0} (old : Live B) (line text : List ℕ) (reply : Reply) (new : Live B) : Type 0 where
+  pub load : Load
+  pub asks : SpellsOnly IsLoad line load
+  pub lines : AreLines load.lines text
+  pub replied : IsLoadReply old load text reply new
+
+-- a line doesn't ask to load. What is no UTF-8 isn't looked at
+abbrev pub IsNoLoad : List ℕ → Type 0
+IsNoLoad line = IsUtf8 line → SpellsNone IsLoad line
 
 -- the reply to what is sent
 abbrev pub IsExchange : {B : Type 0} → (B → Params → BodyMeaning) → Bool → ℕ → Live B → Sent → Reply → Bool → Live B → Type 0
-IsExchange meaning scope width old (Line line) reply last new = IsReplied meaning scope width old line reply last new
+IsExchange meaning scope width old (Line line) reply last new = IsNoLoad line × IsReplied meaning scope width old line reply last new
 IsExchange meaning scope width old (TooLong line) reply last new = (reply ≡ Refused refusal.TooLong) × (last ≡ false) × (new ≡ old)
+IsExchange meaning scope width old (Loads line text) reply last new = HasAskedToLoad old line text reply new × (last ≡ false)
 
 -- ---- a whole session
 
@@ -71,6 +92,7 @@ Plays meaning scope width old _ _ new = ⊥
 abbrev pub bytes_of : Sent → List ℕ
 bytes_of (Line line) = line ++ 10 ∷ []
 bytes_of (TooLong line) = line ++ 10 ∷ []
+bytes_of (Loads line text) = (line ++ 10 ∷ []) ++ text
 
 abbrev pub sent_text : List Sent → List ℕ
 sent_text lines = flat_map bytes_of lines
@@ -92,11 +114,16 @@ pub record HavePlayed {B : Type 0} (meaning : B → Params → BodyMeaning) (sco
   pub read : Consumes before.input after.input (sent_text lines)
   pub told : Appends before.output after.output (told_text replies)
 
--- no line was left, and what is left over is no line
+-- what is left over is no line, or a line that asks to load behind which too few lines follow
+abbrev pub IsLeftOver : List ℕ → Type 0
+IsLeftOver rest = IsUnended rest
+    ⊎ ((line : List ℕ) × (text : List ℕ) × (load : Load) × SpellsOnly IsLoad line load × AreFewer load.lines text × (rest ≡ (line ++ 10 ∷ []) ++ text))
+
+-- no line was left that can be acted on
 pub record HasEnded {B : Type 0} (meaning : B → Params → BodyMeaning) (scope : Bool) (width : ℕ) (old new : Live B) (before after : Streams) : Type 0 where
   pub middle : Option (List ℕ)
   pub played : HavePlayed meaning scope width old new before (record { input = middle; output = after.output })
-  pub over : IfSome middle (λ rest. IsUnended rest × (after.input ≡ Some []))
+  pub over : IfSome middle (λ rest. IsLeftOver rest × (after.input ≡ Some []))
 
 -- the next line was not read
 pub record HasStopped {B : Type 0} (meaning : B → Params → BodyMeaning) (scope : Bool) (width : ℕ) (old new : Live B) (before after : Streams) : Type 0 where
@@ -145,9 +172,17 @@ fault_of_read read.Failed = play.Read
 abbrev pub IsTurn : {B : Type 0} → (B → Params → BodyMeaning) → Bool → ℕ → Live B → Live B → Option (List ℕ) → Option (List ℕ) → Result (Option (Reply × Bool)) PlayFault → Type 0
 IsTurn meaning scope width old new before after (Ok (Some replied)) =
     (line : Sent) × IsExchange meaning scope width old line replied.0 replied.1 new × Consumes before after (bytes_of line)
-IsTurn meaning scope width old new before after (Ok None) = (new ≡ old) × IfSome before (λ rest. IsUnended rest × (after ≡ Some []))
+IsTurn meaning scope width old new before after (Ok None) = (new ≡ old) × IfSome before (λ rest. IsLeftOver rest × (after ≡ Some []))
 IsTurn meaning scope width old new before after (Err play.Write) = ⊥
 IsTurn meaning scope width old new before after (Err fault) = new ≡ old
+
+-- the lines that follow a `load` were read and acted on; or there are too few; or they can't be read
+abbrev pub IsLoadTurn : {B : Type 0} → Load → Live B → Live B → Option (List ℕ) → Option (List ℕ) → Result (Option (Reply × Bool)) PlayFault → Type 0
+IsLoadTurn load old new before after (Ok (Some replied)) =
+    (text : List ℕ) × AreLines load.lines text × IsLoadReply old load text replied.0 new × (replied.1 ≡ false) × Consumes before after text
+IsLoadTurn load old new before after (Ok None) = (new ≡ old) × IfSome before (λ rest. AreFewer load.lines rest × (after ≡ Some []))
+IsLoadTurn load old new before after (Err play.Write) = ⊥
+IsLoadTurn load old new before after (Err fault) = new ≡ old
 
 -- a reply was written, or a beginning of it, or nothing
 abbrev pub IsTold : Option (List ℕ) → Option (List ℕ) → List ℕ → Result (Unit {0}) PlayFault → Type 0

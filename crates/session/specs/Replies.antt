@@ -11,7 +11,7 @@ use Rattle.session.specs.declared.reply.Shown.TheVariants.{Nothing, Id, Changed,
 use Rattle.session.specs.declared.reply.Reply.{Reply}
 use Rattle.session.specs.declared.reply.Reply.TheVariants.{Done, Refused, Failed, Lost}
 
--- the code of a refusal
+-- the code of a refusal, and the line that it names
 abbrev pub refusal_code : Refusal → List ℕ
 refusal_code refusal.Lost = codes "R1"
 refusal_code refusal.ClockSpent = codes "E2"
@@ -21,6 +21,11 @@ refusal_code refusal.ManyMarks = codes "M2"
 refusal_code refusal.Unknown = codes "Q1"
 refusal_code refusal.TooLong = codes "Q2"
 refusal_code refusal.Query = codes "Q3"
+refusal_code (refusal.Outside line) = codes "T1 " ++ decimal line
+refusal_code (refusal.NoState line) = codes "T2 " ++ decimal line
+refusal_code refusal.LongText = codes "T3"
+refusal_code refusal.OtherMemories = codes "T4"
+refusal_code refusal.OtherFile = codes "T5"
 
 -- the code of why a run failed
 abbrev pub loss_code : RunFault → List ℕ

@@ -20,7 +20,7 @@ use state_lines::events::lines_of_events;
 use state_lines::rows::{line_of_entity, lines_of_query};
 use state_lines::world::{push_resources, push_world};
 use state_text::digest::{digest_of, hex_of};
-use state_text::text::{text_of_state, values_of_state};
+use state_text::text::values_of_state;
 use std::alloc::{AllocError, Global};
 use worker_pool::Mode;
 
@@ -48,12 +48,13 @@ impl<B: Body> Session<B> {
             Request::Run(times) => self.run(alloc, *times, mode, crew),
             Request::Put(input) => self.put(alloc, input),
             Request::Mark(name) => self.mark(alloc, name),
+            Request::Save => self.save(alloc),
             look => self.look(alloc, look),
         }
     }
 
     // What is replied where all is done, with what is shown.
-    fn done(&self, shown: Shown) -> Reply
+    pub(crate) fn done(&self, shown: Shown) -> Reply
         ensures { result ≡ Reply.Done (clock_in self.now) shown }
     {
         let clock = if self.engine.is_spoiled() {
@@ -198,7 +199,6 @@ fn lines_of(alloc: Global, state: &State, request: &Request<'_>) -> Result<Strin
         Request::Query(since, query) => lines_of_query(alloc, world, query, *since),
         Request::Events(kind, from) => lines_of_events(alloc, state.events(), *kind, *from),
         Request::Values => values_of_state(alloc, state),
-        Request::Save => text_of_state(alloc, state),
         Request::Digest => {
             let digest = hex_of(digest_of(alloc, state)?);
             format!(in alloc; "{digest}\n")

@@ -2,10 +2,13 @@
 #![tactic(auto)]
 
 mod answering;
+mod body_lines;
+mod file_line;
 pub mod laws;
 pub mod marks;
 pub mod play;
 pub mod reply;
+mod saving;
 pub mod session;
 
 pub use marks::Marks;

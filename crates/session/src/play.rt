@@ -1,16 +1,19 @@
 // A session played on a reader and a writer: a request a line, and a reply to each before the next is read.
 
-ghost use Rattle.std.specs.Prelude.{◌≡◌};
+ghost use Rattle.std.specs.Prelude.{◌≡◌, MatchOption};
 ghost use Rattle.requests.specs.Asked.{asked_of};
-ghost use Rattle.session.specs.Plays.{IsPlayed, IsReplied, IsTold, IsTurn, fault_of_read, is_quit};
+ghost use Rattle.parsing.specs.Reads.{SpellsOnly};
+ghost use Rattle.requests.specs.Load.{IsLoad};
+ghost use Rattle.session.specs.Plays.{IsLoadTurn, IsNoLoad, IsPlayed, IsReplied, IsTold, IsTurn, fault_of_read, is_quit};
 ghost use Rattle.session.specs.Replies.{reply_text};
 ghost use Rattle.session.specs.declared.play.PlayFault.TheVariants as play_fault;
 
+use crate::body_lines::{Follows, read_body};
 use crate::reply::{Refusal, Reply};
 use crate::session::Session;
 use body::Body;
 use engine::Crew;
-use requests::{Request, RequestFault, read_request};
+use requests::{Load, Request, RequestFault, read_load, read_request};
 use std::alloc::{AllocError, Global};
 use std::io::{BufRead, Write};
 use std::str;
@@ -64,9 +67,9 @@ impl From<WriteFault> for PlayFault {
     }
 }
 
-/// Plays a session: reads requests, a line each, and writes the reply to each, whole and in one call where the writer takes it, before it
-/// reads the next one. It ends behind `quit`, or where the input ends; a last line without its end is not done. Workers stand from the first run
-/// until the session ends.
+/// Plays a session: reads requests, a line each and behind a `load` as many as it says, and writes the reply to each, whole and in one call where
+/// the writer takes it, before it reads the next one. It ends behind `quit`, or where the input ends; a last line without its end is not done, nor
+/// is a `load` behind which lines are wanting. Workers stand from the first run until the session ends.
 pub fn play<'s, B: Body + 's, M: Mode<'s>, R: BufRead, O: Write>(
     alloc: Global,
     session: &mut Session<B>,
@@ -126,7 +129,40 @@ fn turn<'s, B: Body + 's, M: Mode<'s>, R: BufRead>(
     match next_line(requests, MOST_BYTES, line)? {
         Line::End => Ok(None),
         Line::TooLong => Ok(Some((Reply::Refused(Refusal::TooLong), false))),
-        Line::Whole => Ok(Some(reply_to(alloc, session, mode, crew, line.as_slice()))),
+        Line::Whole => match load_of(line.as_slice()) {
+            Some(load) => take_load(alloc, session, load, requests, line),
+            None => Ok(Some(reply_to(alloc, session, mode, crew, line.as_slice()))),
+        },
+    }
+}
+
+// What a line asks to load.
+fn load_of(line: &[u8]) -> Option<Load>
+    ensures { MatchOption result (IsNoLoad line.now) (SpellsOnly IsLoad line.now) }
+{
+    let Ok(text) = str::from_utf8(line) else {
+        return None;
+    };
+    read_load(text)
+}
+
+// Reads the lines that follow a `load`, and acts on them. No reply where the input ends before.
+fn take_load<B: Body, R: BufRead>(
+    alloc: Global,
+    session: &mut Session<B>,
+    load: Load,
+    requests: &mut R,
+    line: &mut Vec<u8>,
+) -> Result<Option<(Reply, bool)>, PlayFault>
+    ensures { IsLoadTurn load session.old session.new (R.remaining requests.old)
+        (R.remaining requests.new) result }
+{
+    let mut text = Vec::new(alloc);
+    match read_body(requests, load.lines, line, &mut text)? {
+        None => Ok(None),
+        Some(Follows::Whole) => Ok(Some((session.load(alloc, load, text.as_slice()), false))),
+        Some(Follows::TooLong) => Ok(Some((Reply::Refused(Refusal::LongText), false))),
+        Some(Follows::Failed) => Ok(Some((Reply::Failed, false))),
     }
 }
 

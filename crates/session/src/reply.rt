@@ -26,6 +26,16 @@ pub enum Refusal {
     TooLong,
     /// The query can't be answered.
     Query,
+    /// This line of a text to be loaded is no line of a state, or it is missing.
+    Outside(usize),
+    /// This line of a text to be loaded is of no state.
+    NoState(usize),
+    /// The text to be loaded is too long.
+    LongText,
+    /// The state to be loaded hasn't the memories of the schedule.
+    OtherMemories,
+    /// The state to be loaded is one of another program file.
+    OtherFile,
 }
 
 impl fmt::Display for Refusal {
@@ -35,16 +45,21 @@ impl fmt::Display for Refusal {
     ghost output = { λ refusal. Some (refusal_code refusal) };
 
     fn fmt<W: fmt::Write>(&self, f: &mut fmt::Formatter<W>) -> fmt::Result {
-        f.write_str(match self {
-            Refusal::Lost => "R1",
-            Refusal::ClockSpent => "E2",
-            Refusal::IdsSpent => "E3",
-            Refusal::NoMark => "M1",
-            Refusal::ManyMarks => "M2",
-            Refusal::Unknown => "Q1",
-            Refusal::TooLong => "Q2",
-            Refusal::Query => "Q3",
-        })
+        match self {
+            Refusal::Lost => f.write_str("R1"),
+            Refusal::ClockSpent => f.write_str("E2"),
+            Refusal::IdsSpent => f.write_str("E3"),
+            Refusal::NoMark => f.write_str("M1"),
+            Refusal::ManyMarks => f.write_str("M2"),
+            Refusal::Unknown => f.write_str("Q1"),
+            Refusal::TooLong => f.write_str("Q2"),
+            Refusal::Query => f.write_str("Q3"),
+            Refusal::Outside(line) => write!(f, "T1 {line}"),
+            Refusal::NoState(line) => write!(f, "T2 {line}"),
+            Refusal::LongText => f.write_str("T3"),
+            Refusal::OtherMemories => f.write_str("T4"),
+            Refusal::OtherFile => f.write_str("T5"),
+        }
     }
 }
 

@@ -1,6 +1,6 @@
 -- Texts that can be told from what follows them: where two of them, each with something behind, are equal, they are of related things, and what
 -- is behind is equal too.
-use Rattle.std.proofs.Common.{◌≡◌, ℕ, suc, ◌+◌, ◌<◌, ◌^◌, ◌%◌, ℤ, pos, negsuc, Bool, true, false, nat_lt, List, [], ◌∷◌, ◌++◌, length, map, flat_map, append_assoc, refl, sym, ap, subst, ◌∙◌, arith}
+use Rattle.std.proofs.Common.{◌≡◌, ℕ, zero, suc, ◌+◌, ◌<◌, ◌^◌, ◌%◌, ℤ, pos, negsuc, Bool, true, false, nat_lt, List, [], ◌∷◌, ◌++◌, length, map, flat_map, get_or, append_assoc, refl, sym, ap, subst, ◌∙◌, arith}
 use Rattle.std.proofs.lemmas.Bool.{false≢true, lt-ltb}
 use Rattle.std.proofs.lemmas.Fmt.{decimal_by_steps, decimal_injective, signed_decimal_injective}
 use Rattle.std.specs.Fmt.{decimal, signed_decimal}
@@ -80,7 +80,7 @@ passes-append : (f : List ℕ) (b : ℕ) → Passes in_word f → in_word b ≡ 
 passes-append [] b pf pb = (pb, tt)
 passes-append (x ∷ f) b pf pb = (pf.0, passes-append f b pf.1 pb)
 
-digits : (n : ℕ) → n < 2 ^ 64 → Passes in_word (decimal n)
+pub digits : (n : ℕ) → n < 2 ^ 64 → Passes in_word (decimal n)
 digits n low = decimal_by_steps (λ n ds. Passes in_word ds)
     (λ n one. (lt-ltb 32 (48 + n) (omega arith), tt))
     (λ n ds more front. passes-append ds (48 + n % 10) front (lt-ltb 32 (48 + n % 10) (omega arith)))
@@ -89,7 +89,7 @@ digits n low = decimal_by_steps (λ n ds. Passes in_word ds)
 pub number : (m n : ℕ) → m < 2 ^ 64 → n < 2 ^ 64 → Cut Past (decimal m) (decimal n) (m ≡ n)
 number m n low low' = told (word in_word (decimal m) (decimal n) (digits m low) (digits n low')) (decimal_injective m n low low')
 
-signed : (z : ℤ) → mag z < 2 ^ 63 → Passes in_word (signed_decimal z)
+pub signed : (z : ℤ) → mag z < 2 ^ 63 → Passes in_word (signed_decimal z)
 signed (pos n) low = digits n (omega arith)
 signed (negsuc n) low = (refl, digits (suc n) (omega arith))
 
@@ -98,6 +98,12 @@ integer y z low low' =
     told (word in_word (signed_decimal y) (signed_decimal z) (signed y low) (signed z low')) (signed_decimal_injective y z low low')
 
 -- ---- lists
+
+-- an element of a list, or what stands past its end
+pub at : {X : Type 0} (P : X → Type 0) (d : X) (xs : List X) (i : ℕ) → P d → AllByRecursion P xs → P (get_or xs i d)
+at P d [] i pd h = pd
+at P d (x ∷ xs) zero pd h = h.0
+at P d (x ∷ xs) (suc i) pd h = at P d xs i pd h.1
 
 -- no elements
 pub nothing : {C : List ℕ → Type 0} {X : Type 0} → Cut C [] [] (◌≡◌ {A = List X} [] [])

@@ -1,5 +1,5 @@
 -- Lines of states: two that are equal are of things that are equal, but for stamps where the form leaves these out.
-use Rattle.std.proofs.Common.{◌≡◌, ℕ, suc, ◌+◌, ◌<◌, ◌≤◌, ◌^◌, ℤ, pos, List, [], ◌∷◌, ◌++◌, length, map, refl, sym, ap, ◌∙◌, arith, rules, w64}
+use Rattle.std.proofs.Common.{◌≡◌, ℕ, suc, ◌<◌, ◌≤◌, ◌^◌, ℤ, pos, List, [], ◌∷◌, ◌++◌, length, map, refl, sym, ap, ◌∙◌, arith, rules, w64}
 use Rattle.std.specs.Fmt.{decimal, signed_decimal}
 use Rattle.std.specs.Prelude.{FitsSigned}
 use Rattle.std.specs.List.{AllByRecursion}
@@ -14,6 +14,8 @@ use Rattle.state_text.specs.declared.form.Form.{Form}
 use Rattle.state_text.specs.declared.form.Form.TheVariants.{Whole, Values}
 use Rattle.state_text.specs.Laws.{FitsMemory}
 use Rattle.state_text.specs.StateText.{stamp_text, resource_line, event_line, number_text, word_text, words_text, memory_line}
+use Rattle.state_text.specs.LineWords.{IsResourceAt}
+use Rattle.state_text.proofs.KeptValues.{values_fit, count, length-values}
 use Rattle.state_text.proofs.Cuts.{Cut, Any, same, behind, told, join, Past, past_all, past_end, number, integer, by_count, to_end, all_told}
 
 -- integers, behind spaces
@@ -60,14 +62,10 @@ memory form clock most name m n sm sn fm fn =
 
 -- ---- resources
 
--- what holds of the resources of a state
-abbrev pub IsResource : ℕ → Resource → Type 0
-IsResource clock r = FitsSigned w64 r.value × (r.changed ≤ clock)
-
 abbrev pub kept_resource : Form → Resource → Resource
 kept_resource form r = record { value = r.value; changed = kept_stamp form r.changed }
 
-pub resource : (form : Form) (clock : ℕ) → clock ≤ last_tick → (res : Res) (q r : Resource) → IsResource clock q → IsResource clock r
+pub resource : (form : Form) (clock : ℕ) → clock ≤ last_tick → (res : Res) (q r : Resource) → IsResourceAt clock q → IsResourceAt clock r
     → Cut Any (resource_line form res q) (resource_line form res r) (kept_resource form q ≡ kept_resource form r)
 resource form clock most res q r iq ir =
     told (join (join (join (same (res_name res)) (λ s a. tt) (λ s a. tt) (λ _. behind 32 (an_integer q.value r.value iq.0 ir.0)))
@@ -81,15 +79,6 @@ resource form clock most res q r iq ir =
 abbrev pub IsQueueOf64 : EventQueue → Type 0
 IsQueueOf64 q = IsQueue q × AllByRecursion (λ (e : Event). FitsSigned w64 e.value) q.kept
 
-values_fit : (es : List Event) → AllByRecursion (λ (e : Event). FitsSigned w64 e.value) es → AllByRecursion (FitsSigned w64) (map (λ (e : Event). e.value) es)
-values_fit [] h = tt
-values_fit (e ∷ es) h = (h.0, values_fit es h.1)
-
--- how many events have been numbered
-count : (from to : ℕ) (es : List Event) → AreNumbered from to es → from + length es ≡ to
-count from to [] h = omega (arith, h)
-count from to (e ∷ es) h = let rest = count (suc from) to es h.1 in omega (arith, rest)
-
 -- events numbered from one number on, of the same values, are the same
 numbered : (from from' to to' : ℕ) (es fs : List Event) → from ≡ from' → AreNumbered from to es → AreNumbered from' to' fs
     → map (λ (e : Event). e.value) es ≡ map (λ (e : Event). e.value) fs → es ≡ fs
@@ -100,10 +89,6 @@ numbered from from' to to' (e ∷ es) (f ∷ fs) first he hf values =
     let number : e.number ≡ f.number = he.0 ∙ first ∙ sym hf.0 in
     let rest = numbered (suc from) (suc from') to to' es fs (ap suc first) he.1 hf.1 (ap tail_of values) in
     λ i. record { number = number i; value = head_or (pos 0) (values i) } ∷ rest i
-
-length-values : (es : List Event) → length (map (λ (e : Event). e.value) es) ≡ length es
-length-values [] = refl
-length-values (e ∷ es) = ap suc (length-values es)
 
 kept : (q r : EventQueue) → IsQueue q → IsQueue r → q.next ≡ r.next → map (λ (e : Event). e.value) q.kept ≡ map (λ (e : Event). e.value) r.kept → q.kept ≡ r.kept
 kept q r iq ir next values =

@@ -1,47 +1,29 @@
 -- Lines of slots: two that are equal, of one index, are of slots that are equal, but for stamps where the form leaves these out.
-use Rattle.std.proofs.Common.{◌≡◌, ℕ, zero, suc, ◌<◌, ◌≤◌, Bool, true, false, ◌&&◌, eqb, cond, List, [], ◌∷◌, ◌++◌, length, map, codes, refl, sym, ap, ◌∙◌, inl, inr, arith}
-use Rattle.std.proofs.lemmas.Bool.{and_parts, eqb-true, cases_lt}
+use Rattle.std.proofs.Common.{◌≡◌, ℕ, zero, suc, ◌<◌, ◌≤◌, true, eqb, cond, List, [], ◌∷◌, ◌++◌, length, map, codes, refl, sym, ap, ◌∙◌, arith}
+use Rattle.std.proofs.lemmas.Bool.{and_parts, eqb-true}
 use Rattle.std.specs.Fmt.{signed_decimal}
 use Rattle.std.specs.List.{AllByRecursion, list_all}
 use Rattle.model.specs.Lists.{head_or}
 use Rattle.model.specs.state.State.{Component, Status, Slot, last_tick}
 use Rattle.model.specs.state.State.Status.{Vacant, Granted, Living, Retired}
-use Rattle.model.specs.state.Shape.{IsComponent, IsSlot}
+use Rattle.model.specs.state.Shape.{IsComponent}
 use Rattle.kinds.specs.Kind.{kind_count, name_of_kind}
 use Rattle.kinds.specs.Components.{widths}
 use Rattle.state_text.specs.declared.form.Form.{Form}
 use Rattle.state_text.specs.Laws.{FitsComponent}
 use Rattle.state_text.specs.StateText.{number_text, words_text, stamp_text, status_name, slot_line, slot_lines}
+use Rattle.state_text.specs.LineWords.{IsSlotAt}
 use Rattle.state_text.proofs.Cuts.{Cut, Any, same, behind, told, join, Passes, word, in_word, Past, past_all, past_end, number, nothing, to_end}
+use Rattle.state_text.proofs.KindNames.{at_below, same_word}
 use Rattle.state_text.proofs.OneLine.{integers, kept_stamp, stamp, past_stamp, end}
 
 -- ---- tests
 
-passes_from : (f : List ℕ) → list_all in_word f ≡ true → Passes in_word f
+pub passes_from : (f : List ℕ) → list_all in_word f ≡ true → Passes in_word f
 passes_from [] h = tt
 passes_from (b ∷ f) h = let parts = and_parts (in_word b) (list_all in_word f) h in (parts.0, passes_from f parts.1)
 
--- what is tested of each number below a bound
-abbrev all_below : (ℕ → Bool) → ℕ → Bool
-all_below test zero = true
-all_below test (suc n) = test n && all_below test n
-
-at_below : (test : ℕ → Bool) (n k : ℕ) → all_below test n ≡ true → k < n → test k ≡ true
-at_below test zero k h low = absurd (omega arith)
-at_below test (suc n) k h low =
-    let parts = and_parts (test n) (all_below test n) h in
-    elim (cases_lt k n) [
-      | inl below ↦ at_below test n k parts.1 below
-      | inr top ↦ let e : k ≡ n = omega arith in rw e parts.0
-    ]
-
 -- ---- names of kinds
-
-abbrev same_word : List ℕ → List ℕ → Bool
-same_word [] [] = true
-same_word [] (d ∷ ds) = false
-same_word (c ∷ cs) [] = false
-same_word (c ∷ cs) (d ∷ ds) = eqb c d && same_word cs ds
 
 -- the greatest number below a bound whose kind has a name
 abbrev kind_named : ℕ → List ℕ → ℕ
@@ -103,10 +85,6 @@ status : (a b : Status) → Cut Past (status_name a) (status_name b) (a ≡ b)
 status a b = told (word in_word (status_name a) (status_name b) (passes_status a) (passes_status b))
     (λ names. sym (status_found a) ∙ ap (λ name. status_by (head_or 0 name)) names ∙ status_found b)
 
--- what holds of the slots of a state
-abbrev pub IsSlotOf64 : ℕ → Slot → Type 0
-IsSlotOf64 clock slot = IsSlot widths clock slot × AllByRecursion FitsComponent slot.row
-
 pub both : {X : Type 0} (P Q : X → Type 0) (xs : List X) → AllByRecursion P xs → AllByRecursion Q xs → AllByRecursion (λ x. P x × Q x) xs
 both P Q [] p q = tt
 both P Q (x ∷ xs) p q = ((p.0, q.0), both P Q xs p.1 q.1)
@@ -114,7 +92,7 @@ both P Q (x ∷ xs) p q = ((p.0, q.0), both P Q xs p.1 q.1)
 abbrev pub kept_slot : Form → Slot → Slot
 kept_slot form slot = record { generation = slot.generation; status = slot.status; row = map (kept_component form) slot.row }
 
-slot : (form : Form) (clock : ℕ) → clock ≤ last_tick → (index : ℕ) (a b : Slot) → IsSlotOf64 clock a → IsSlotOf64 clock b
+slot : (form : Form) (clock : ℕ) → clock ≤ last_tick → (index : ℕ) (a b : Slot) → IsSlotAt clock a → IsSlotAt clock b
     → Cut Any (slot_line form index a) (slot_line form index b) (kept_slot form a ≡ kept_slot form b)
 slot form clock most index a b ia ib =
     told (join (join (join (join (status a.status b.status) (λ s a. refl) (λ s a. refl) (λ _. same (number_text index)))
@@ -127,7 +105,7 @@ slot form clock most index a b ia ib =
 
 -- as many slots
 pub slots : (form : Form) (clock : ℕ) → clock ≤ last_tick → (index : ℕ) (xs ys : List Slot) → length xs ≡ length ys
-    → AllByRecursion (IsSlotOf64 clock) xs → AllByRecursion (IsSlotOf64 clock) ys
+    → AllByRecursion (IsSlotAt clock) xs → AllByRecursion (IsSlotAt clock) ys
     → Cut Any (slot_lines form index xs) (slot_lines form index ys) (map (kept_slot form) xs ≡ map (kept_slot form) ys)
 slots form clock most index [] [] count ia ib = nothing
 slots form clock most index [] (b ∷ ys) count ia ib = absurd (omega (arith, count))

@@ -16,26 +16,21 @@ use Rattle.state_text.specs.declared.form.Form.{Form}
 use Rattle.state_text.specs.declared.form.Form.TheVariants.{Whole, Values}
 use Rattle.state_text.specs.Laws.{FitsComponent, FitsMemory, Fits, StatesHaveOneText, ValuesHaveOneText}
 use Rattle.state_text.specs.StateText.{form_name, head_line, count_line, resource_lines, every_event, event_lines, memory_line, memory_lines, text_in}
-use Rattle.state_text.proofs.Cuts.{Cut, Any, same, behind, told, join, number, by_count, map_same}
-use Rattle.state_text.proofs.OneLine.{end, kept_memory, memory, IsResource, kept_resource, resource, IsQueueOf64, queue}
-use Rattle.state_text.proofs.OneSlot.{kept_component, kept_slot, IsSlotOf64, both, slots}
+use Rattle.state_text.specs.LineWords.{IsResourceAt, IsSlotAt}
+use Rattle.state_text.proofs.Cuts.{Cut, Any, same, behind, told, join, number, at, by_count, map_same}
+use Rattle.state_text.proofs.OneLine.{end, kept_memory, memory, kept_resource, resource, IsQueueOf64, queue}
+use Rattle.state_text.proofs.OneSlot.{kept_component, kept_slot, both, slots}
 
--- ---- lists by number
+-- ---- resources and events
 
--- an element of a list, or what stands past its end
-at : {X : Type 0} (P : X → Type 0) (d : X) (xs : List X) (i : ℕ) → P d → AllByRecursion P xs → P (get_or xs i d)
-at P d [] i pd h = pd
-at P d (x ∷ xs) zero pd h = h.0
-at P d (x ∷ xs) (suc i) pd h = at P d xs i pd h.1
-
-resources_each : (form : Form) (clock : ℕ) → clock ≤ last_tick → (qs rs : List Resource) → AllByRecursion (IsResource clock) qs → AllByRecursion (IsResource clock) rs
+resources_each : (form : Form) (clock : ℕ) → clock ≤ last_tick → (qs rs : List Resource) → AllByRecursion (IsResourceAt clock) qs → AllByRecursion (IsResourceAt clock) rs
     → (list : List Res) → Cut Any (resource_lines form qs list) (resource_lines form rs list)
     (AllByRecursion (λ res. kept_resource form (get_or qs (res_number res) no_resource) ≡ kept_resource form (get_or rs (res_number res) no_resource)) list)
 resources_each form clock most qs rs iq ir [] = same []
 resources_each form clock most qs rs iq ir (res ∷ list) =
-    let none : IsResource clock no_resource = (search rules, omega arith) in
+    let none : IsResourceAt clock no_resource = (search rules, omega arith) in
     join (resource form clock most res (get_or qs (res_number res) no_resource) (get_or rs (res_number res) no_resource)
-    (at (IsResource clock) no_resource qs (res_number res) none iq) (at (IsResource clock) no_resource rs (res_number res) none ir))
+    (at (IsResourceAt clock) no_resource qs (res_number res) none iq) (at (IsResourceAt clock) no_resource rs (res_number res) none ir))
     (λ s a. tt) (λ s a. tt) (λ _. resources_each form clock most qs rs iq ir list)
 
 eight : {X : Type 0} (x y : ℕ → X) → AllByRecursion (λ res. x (res_number res) ≡ y (res_number res)) every_res → (i : ℕ) → i < 8 → x i ≡ y i
@@ -50,7 +45,7 @@ eight x y h (suc (suc (suc (suc (suc (suc (suc zero))))))) low = h.1.1.1.1.1.1.1
 eight x y h (suc (suc (suc (suc (suc (suc (suc (suc i)))))))) low = absurd (omega (arith, low))
 
 resources : (form : Form) (clock : ℕ) → clock ≤ last_tick → (qs rs : List Resource) → length qs ≡ resource_count → length rs ≡ resource_count
-    → AllByRecursion (IsResource clock) qs → AllByRecursion (IsResource clock) rs
+    → AllByRecursion (IsResourceAt clock) qs → AllByRecursion (IsResourceAt clock) rs
     → Cut Any (resource_lines form qs every_res) (resource_lines form rs every_res) (map (kept_resource form) qs ≡ map (kept_resource form) rs)
 resources form clock most qs rs many many' iq ir = told (resources_each form clock most qs rs iq ir every_res)
     (λ each. ext_get_or (kept_resource form no_resource) (map (kept_resource form) qs) (map (kept_resource form) rs)
@@ -108,7 +103,7 @@ head form v w sv sw fv fw =
     (λ p. (p.0.0.0.1, p.0.0.1, p.0.1))
 
 -- what holds of the parts of a state, at a clock that is its own
-resources_of : (w : State) (clock : ℕ) → w.world.clock ≡ clock → HasShape w → Fits w → AllByRecursion (IsResource clock) w.world.resources
+resources_of : (w : State) (clock : ℕ) → w.world.clock ≡ clock → HasShape w → Fits w → AllByRecursion (IsResourceAt clock) w.world.resources
 resources_of w clock same_clock s f =
     both (λ r. FitsSigned w64 r.value) (λ r. r.changed ≤ clock) w.world.resources f.resources (subst (λ c. AllByRecursion (λ (r : Resource). r.changed ≤ c) w.world.resources) same_clock s.world.resources)
 
@@ -121,7 +116,7 @@ systems_of w clock same_clock s f = both (IsMemoryAt clock) FitsMemory w.systems
 conditions_of : (w : State) (clock : ℕ) → w.world.clock ≡ clock → HasShape w → Fits w → AllByRecursion (IsMemoryOf64 clock) w.conditions
 conditions_of w clock same_clock s f = both (IsMemoryAt clock) FitsMemory w.conditions (subst (λ c. AllByRecursion (IsMemoryAt c) w.conditions) same_clock s.memories.conditions_in) f.conditions
 
-slots_of : (w : State) (clock : ℕ) → w.world.clock ≡ clock → HasShape w → Fits w → AllByRecursion (IsSlotOf64 clock) w.world.slots
+slots_of : (w : State) (clock : ℕ) → w.world.clock ≡ clock → HasShape w → Fits w → AllByRecursion (IsSlotAt clock) w.world.slots
 slots_of w clock same_clock s f =
     both (IsSlot widths clock) (λ slot. AllByRecursion FitsComponent slot.row) w.world.slots (subst (λ c. AllByRecursion (IsSlot widths c) w.world.slots) same_clock s.world.slots) f.components
 

@@ -1,2 +1,4 @@
 pub mod StateText
 pub mod Laws
+pub mod LineWords
+pub mod Reading

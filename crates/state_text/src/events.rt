@@ -2,53 +2,31 @@
 
 ghost use Rattle.std.specs.Prelude.{◌≡◌, ◌++◌, map, OnOk, string_bytes};
 ghost use Rattle.kinds.specs.Res.{event_number};
-ghost use Rattle.model.specs.state.Events.{queue_of, updated_queue};
-ghost use Rattle.state_text.specs.StateText.{words_text, event_line, event_lines, every_event};
+ghost use Rattle.model.specs.state.Events.{queue_of};
+ghost use Rattle.state_text.specs.StateText.{words_text, event_line, event_lines};
 
 use crate::words::push_words;
 use event_buffers::Events;
 use kinds::Event;
-use std::alloc::{AllocError, Global};
+use std::alloc::AllocError;
 
-/// Adds the line of each event kind. Where a newer buffer begins is found in a copy of the kept events that is updated.
-pub fn push_events(alloc: Global, text: &mut String, events: &Events) -> Result<(), AllocError>
-    ensures { OnOk result (string_bytes text.new
-        ≡ string_bytes text.old ++ event_lines events.now every_event) }
-{
-    let mut updated = events.copy(alloc)?;
-    updated.update();
-    push_queues(text, events, &updated, Event::ALL.as_slice())
-}
-
-// Adds the lines of these event kinds. The other events are the same after an update.
-fn push_queues(
-    text: &mut String,
-    events: &Events,
-    updated: &Events,
-    list: &[Event],
-) -> Result<(), AllocError>
-    requires { updated.now ≡ map updated_queue events.now }
+/// Adds the lines of these event kinds.
+pub fn push_events(text: &mut String, events: &Events, list: &[Event]) -> Result<(), AllocError>
     ensures { OnOk result (string_bytes text.new
         ≡ string_bytes text.old ++ event_lines events.now list.now) }
 {
     for kind in list {
-        push_queue(text, events, updated, *kind)?;
+        push_queue(text, events, *kind)?;
     }
     Ok(())
 }
 
 // Adds the line of an event kind.
-fn push_queue(
-    text: &mut String,
-    events: &Events,
-    updated: &Events,
-    kind: Event,
-) -> Result<(), AllocError>
-    requires { updated.now ≡ map updated_queue events.now }
+fn push_queue(text: &mut String, events: &Events, kind: Event) -> Result<(), AllocError>
     ensures { OnOk result (string_bytes text.new
         ≡ string_bytes text.old ++ event_line kind (queue_of events.now (event_number kind))) }
 {
-    let newer = begin_of_newer(events, updated, kind);
+    let newer = events.newer(kind);
     let next = events.next(kind);
     write!(text, "{kind} {newer} {next}")?;
     push_kept(text, events, kind)?;
@@ -63,15 +41,4 @@ fn push_kept(text: &mut String, events: &Events, kind: Event) -> Result<(), Allo
     let kept = events.unread(kind, 0);
     push_words(text, kept.older)?;
     push_words(text, kept.newer)
-}
-
-// The number at which the newer buffer of an event kind begins. An update leaves the events of this buffer alone, and they have the last numbers
-// given.
-fn begin_of_newer(events: &Events, updated: &Events, kind: Event) -> u64
-    requires { updated.now ≡ map updated_queue events.now }
-    ensures { result ≡ (queue_of events.now (event_number kind)).newer }
-{
-    events.prove_shape();
-    let left = updated.unread(kind, 0);
-    events.next(kind) - left.older.len() as u64 - left.newer.len() as u64
 }

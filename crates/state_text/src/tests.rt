@@ -4,7 +4,8 @@ ghost use Rattle.std.specs.Prelude.{IfSome};
 ghost use Rattle.archetype_store.specs.Layout.{AreAllHome};
 ghost use Rattle.body.specs.Steps.{AreInTime};
 
-use crate::{digest_of, hex_of, text_of_state, values_of_state};
+use crate::reading::StateFault::{self, NoState, Outside};
+use crate::{digest_of, hex_of, read_state, text_of_state, values_of_state};
 use archetype_store::World;
 use body::{Input, Memories, Memory, OpenState, State};
 use change_ticks::Clock;
@@ -138,5 +139,71 @@ fn a_small_state_is_written(rt: HostRuntime) -> Result<(), Fail> {
     assert_eq!(rt; values_of_state(alloc, &state)?.as_str(), VALUES);
     let digest = digest_of(alloc, &state)?;
     assert_eq!(rt; hex_of(digest).to_string(alloc)?.as_str(), DIGEST);
+    Ok(())
+}
+
+#[test]
+fn a_written_state_is_read(rt: HostRuntime) -> Result<(), Fail> {
+    let alloc = rt.alloc();
+    match read_state(alloc, WHOLE) {
+        Ok(state) => {
+            assert_eq!(rt; text_of_state(alloc, &state)?.as_str(), WHOLE);
+            assert_eq!(rt; values_of_state(alloc, &state)?.as_str(), VALUES);
+        }
+        Err(fault) => assert!(rt; false, "{fault}"),
+    }
+    Ok(())
+}
+
+// A part of the text, what stands in its place, and why the whole is refused then.
+const REFUSALS: [(&str, &str, StateFault); 22] = [
+    // The version of the format.
+    ("state 1", "state 2", Outside(1)),
+    // A line fewer than the head says, and one more.
+    ("1 1 4", "1 1 5", Outside(22)),
+    ("1 1 4", "1 1 3", Outside(21)),
+    // Another spelling: of a number, of spaces, of an end.
+    ("clock 9", "clock 09", Outside(2)),
+    ("passed 1", "passed  1", Outside(3)),
+    ("4 4 9\n", "4 4 9", Outside(21)),
+    // No clock stands at tick 0.
+    ("clock 9", "clock 0", NoState(2)),
+    // A tick above the clock: of a resource, of a run, of a component.
+    ("Gravity -10 5", "Gravity -10 10", NoState(5)),
+    ("system 1", "system 10", NoState(16)),
+    ("Health 4 4", "Health 4 10", NoState(21)),
+    // Another name than that of the place.
+    ("Total", "Seed", Outside(6)),
+    // More kept events than numbers were given; a newer buffer that begins before them, and behind.
+    ("Hit 1 2", "Hit 1 1", NoState(12)),
+    ("Hit 1 2 7 -5", "Hit 1 3 7 -5 0 0", NoState(12)),
+    ("Hit 1 2", "Hit 3 2", NoState(12)),
+    // Too few registers; a cursor that is none.
+    ("condition 0 0", "condition 0", Outside(17)),
+    ("3 1\n", "3 -1\n", Outside(16)),
+    // A vacant index that never came back, one retired too early, one out of its place.
+    ("granted 0", "vacant 0", NoState(18)),
+    ("vacant 2", "retired 2", NoState(20)),
+    ("live 1", "live 2", NoState(19)),
+    // Kinds that don't rise; a component of who doesn't live; a field too many.
+    (
+        "Position 2 7 5 -4 Frozen 2 2",
+        "Frozen 2 2 Position 2 7 5 -4",
+        NoState(19),
+    ),
+    ("2v2", "2v2 Frozen 2 2", NoState(20)),
+    ("4 4 9", "4 4 9 9", Outside(21)),
+];
+
+#[test]
+fn other_texts_are_refused(rt: HostRuntime) -> Result<(), Fail> {
+    let alloc = rt.alloc();
+    for (old, new, wanted) in &REFUSALS {
+        let text = WHOLE.replace(alloc, old, new)?;
+        match read_state(alloc, text.as_str()) {
+            Ok(_) => assert!(rt; false, "{new} is read"),
+            Err(fault) => assert_eq!(rt; fault, *wanted),
+        }
+    }
     Ok(())
 }

@@ -10,7 +10,7 @@ use crate::memories::{push_conditions, push_systems};
 use crate::resources::push_resources;
 use crate::slots::push_slots;
 use body::State;
-use kinds::Res;
+use kinds::{Event, Res};
 use std::alloc::{AllocError, Global};
 
 /// The text of a whole state, a line for each: its head, the clock, the count of commands passed over, the resources, the kept events, what
@@ -39,7 +39,7 @@ fn text_of(alloc: Global, form: Form, state: &State) -> Result<String, AllocErro
     push_count(&mut text, "clock", world.now())?;
     push_count(&mut text, "passed", state.passed_over())?;
     push_resources(&mut text, form, world, Res::ALL.as_slice())?;
-    push_events(alloc, &mut text, state.events())?;
+    push_events(&mut text, state.events(), Event::ALL.as_slice())?;
     push_systems(&mut text, form, state)?;
     push_conditions(&mut text, form, state)?;
     push_slots(alloc, &mut text, form, world)?;

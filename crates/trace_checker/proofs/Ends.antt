@@ -15,7 +15,9 @@ use Rattle.parsing.specs.declared.read_error.ReadError.TheVariants.{Outside, Mem
 use Rattle.parsing.specs.Words.{Lacks}
 use Rattle.trace_checker.specs.declared.line.Line.{Line}
 use Rattle.trace_checker.specs.Grammar.{is_end, line_text, IsLine, IsLineBefore}
-use Rattle.trace_checker.specs.TextFaults.{is_listed}
+use Rattle.trace_checker.specs.declared.read.TextFault.{TextFault}
+use Rattle.trace_checker.specs.declared.read.TextFault.TheVariants as fault
+use Rattle.trace_checker.specs.TextFaults.{fault_of_line, is_listed}
 use Rattle.trace_checker.proofs.Lines.{line_lacks, same_cut}
 
 -- no end stands before the first
@@ -120,3 +122,36 @@ unlisted_past text i found past = listed_at text i found ∙ ap (λ b. b == 65) 
 pub outside_refuses : {A T R : Type 0} (Spells : A → T → Type 0) (text : T) (error : ReadError) → ◌≡◌ {A = Result R ReadError} (Err error) (Err Outside) → Refuses Spells text error → SpellsNone Spells text
 outside_refuses Spells text Outside told none = none
 outside_refuses Spells text Memory told none = absurd (cc)
+
+-- an error that says that an allocation failed, of a reader of something else
+pub memory_told : {R S : Type 0} (error : ReadError) → ◌≡◌ {A = Result R ReadError} (Err error) (Err Memory) → ◌≡◌ {A = Result S ReadError} (Err error) (Err Memory)
+memory_told Outside told = absurd (cc)
+memory_told Memory told = refl
+
+-- the first byte of a front is that of the text
+pub first_byte_of : (text : List ℕ) (i : ℕ) → get_or (take i text) 0 0 ≡ 65 → get_or text 0 0 ≡ 65
+first_byte_of [] zero is = is
+first_byte_of [] (suc i) is = is
+first_byte_of (b ∷ text) zero is = absurd (omega (arith, is))
+first_byte_of (b ∷ text) (suc i) is = is
+
+-- ---- what is told of a line that is not read
+
+-- where it is no line, there is none to be read
+pub unread_memory : (error : ReadError) (number : ℕ) (told : TextFault) → told ≡ fault_of_line error number → (error ≡ Outside → ⊥) → told ≡ fault.Memory
+unread_memory Outside number told is read = absurd (read refl)
+unread_memory Memory number told is read = is
+
+module _ {R : Type 0} (n : ℕ) where
+  pub unread_at : (error : ReadError) (number : ℕ) (told : TextFault) → told ≡ fault_of_line error number → ◌≡◌ {A = Result R TextFault} (Err told) (Err (fault.Line n)) → (error ≡ Outside) × (n ≡ number)
+  unread_at Outside number told is line = (refl, cc)
+  unread_at Memory number told is line = absurd (cc)
+
+  -- and nothing is told of order or of kind sets
+  pub unread_in_order : (error : ReadError) (number : ℕ) (told : TextFault) → told ≡ fault_of_line error number → ◌≡◌ {A = Result R TextFault} (Err told) (Err (fault.Order n)) → ⊥
+  unread_in_order Outside number told is order = cc
+  unread_in_order Memory number told is order = cc
+
+  pub unread_in_place : (error : ReadError) (number : ℕ) (told : TextFault) → told ≡ fault_of_line error number → ◌≡◌ {A = Result R TextFault} (Err told) (Err (fault.Lists n)) → ⊥
+  unread_in_place Outside number told is lists = cc
+  unread_in_place Memory number told is lists = cc

@@ -1,5 +1,6 @@
 -- The steps of a replay, one after the other.
-use Rattle.std.proofs.Common.{◌≡◌, ◌<◌, ◌≤◌, ◌+◌, ℕ, suc, false, refl, List, [], ◌∷◌, ◌++◌, length, Some, drop, take, get_or, reverse, sym, ap, subst, ◌∙◌, append-nil, arith}
+use Rattle.std.proofs.Common.{◌≡◌, ◌<◌, ◌≤◌, ◌+◌, ℕ, suc, Bool, true, false, refl, List, [], ◌∷◌, ◌++◌, length, Some, drop, take, get_or, reverse, sym, ap, subst, ◌∙◌, append-nil, arith}
+use Rattle.std.specs.Prelude.{◌≢◌}
 use Rattle.std.proofs.lemmas.Bool.{false≢true, false_from_ne_true}
 use Rattle.std.proofs.lemmas.List.{length-reverse, length-take-le, take_all}
 use Rattle.model.specs.declared.steps.Step.{Step}
@@ -8,7 +9,7 @@ use Rattle.model.specs.state.State.{State}
 use Rattle.model.specs.shown.Outcome.{BodyMeaning}
 use Rattle.model.specs.steps.Schedule.{Schedule, Recorded, level_of, recording}
 use Rattle.model.specs.steps.Lawful.{syncs_in, IsLawful, IsComplete, May, begun}
-use Rattle.model.specs.runs.RunState.{RunState}
+use Rattle.model.specs.runs.RunState.{RunState, answer_of, can_ask}
 use Rattle.model.specs.state.Shape.{AreIdsFor}
 use Rattle.model.specs.steps.Built.{IsBuilt}
 use Rattle.model.specs.runs.Causes.{Cause, serial_cause_of}
@@ -39,6 +40,12 @@ step_told s bodies run step Meets stop.NoTick is h = (cause.NoTick, tt, is cause
 step_told s bodies run step Meets stop.NoIds is h = (cause.NoIds, tt, is cause.NoIds h)
 step_told s bodies run step Meets stop.NoEventNumber is h = (cause.NoEventNumber, tt, is cause.NoEventNumber h)
 step_told s bodies run step Meets (stop.Refused n) is h = (cause.Refused n, refl, is (cause.Refused n) h)
+
+-- what is told of a step whose recorded answer is wrong
+pub answer_told : (s : Schedule) (bodies : List BodyMeaning) (run : RunState) (n : ℕ) (answer recorded : Bool) (number : ℕ) (told : ReplayFault) → can_ask run ≡ true → answer ≡ answer_of s n run
+    → (told ≡ replay.WrongAnswer number) × (answer ≢ recorded) → IsStepFault s bodies run (Cond n recorded) number told
+answer_told s bodies run n answer recorded number told can is wrong =
+    subst (IsStepFault s bodies run (Cond n recorded) number) (sym wrong.0) (refl, (can, λ same. wrong.1 (is ∙ sym same)))
 
 known-of : (s : Schedule) (h : List Step) (step : Step) → May s h step → IsKnown s step
 known-of s h (Cond c answer) may = may.known

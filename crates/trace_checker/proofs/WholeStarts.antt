@@ -1,6 +1,5 @@
 -- A start that is taken whole: what it makes of the run state, what stops it, and the bodies after it. And the other steps of a replay.
-use Rattle.std.proofs.Common.{ℕ, zero, suc, ◌<◌, Bool, true, false, not, ◌≡◌, List, [], ◌∷◌, length, map, set, slice_get, get_or, cond, Option, Some, None, option_and_then, Result, Ok, Err, refl, sym, ◌∙◌, ap, ap₂, subst, arith}
-use Rattle.std.proofs.Math.Bool.{beq}
+use Rattle.std.proofs.Common.{ℕ, zero, suc, ◌<◌, Bool, true, false, ◌≡◌, List, [], ◌∷◌, length, map, set, slice_get, get_or, cond, Option, Some, None, option_and_then, Result, Ok, Err, refl, sym, ◌∙◌, ap, ap₂, subst, arith}
 use Rattle.std.proofs.lemmas.Bool.{eq-eqb}
 use Rattle.std.proofs.lemmas.List.{length-map, length-set}
 use Rattle.model.specs.declared.steps.Step.TheVariants.{Cond, Start}
@@ -230,13 +229,6 @@ deferred_for_start s n commands deferred suits = record {
 }
 
 -- ---- the other steps
-
--- truth values that don't differ
-pub same_bool : (a b : Bool) → not (beq a b) ≡ false → a ≡ b
-same_bool true true e = refl
-same_bool false false e = refl
-same_bool true false e = e
-same_bool false true e = sym e
 
 -- a condition that is asked, whose recorded answer is its meaning
 pub ask_taken : (s : Schedule) (bodies : List BodyMeaning) (c : ℕ) (answer : Bool) (w later : State) (deferred : DeferredValue) → has_tick w ≡ true → later ≡ asked_at c (access_of s c).reads (next_tick w) (ticked w) →

@@ -5,8 +5,12 @@ use Rattle.std.specs.List.{AllByRecursion}
 use Rattle.model.specs.declared.steps.Step.TheVariants.{Sync}
 use Rattle.model.specs.steps.Schedule.{Recorded}
 use Rattle.parsing.specs.Reads.{SpellsNone}
+use Rattle.parsing.specs.declared.read_error.ReadError.{ReadError}
+use Rattle.parsing.specs.declared.read_error.ReadError.TheVariants.{Outside, Memory}
 use Rattle.trace_checker.specs.declared.line.Line.{Line}
 use Rattle.trace_checker.specs.declared.line.Line.TheVariants.{Begin, Take, There}
+use Rattle.trace_checker.specs.declared.read.TextFault.{TextFault}
+use Rattle.trace_checker.specs.declared.read.TextFault.TheVariants as fault
 use Rattle.trace_checker.specs.declared.read.Due.{Due}
 use Rattle.trace_checker.specs.declared.read.Due.TheVariants.{Nothing, Opening, After}
 use Rattle.trace_checker.specs.Grammar.{is_end, lines_text, lines_from, line_text, IsFitting, IsListedRun, AreRecording, IsLineBefore}
@@ -59,6 +63,11 @@ pub record IsFront (text : List ℕ) (runs : List Recorded) (due : Due) (rest : 
   pub begun : AreBegun (is_listed text) runs due
 
 -- ---- faults
+
+-- what is told where the line of this number is not read
+abbrev pub fault_of_line : ReadError → ℕ → TextFault
+fault_of_line Outside number = fault.Line number
+fault_of_line Memory number = fault.Memory
 
 -- behind lines that are read the text goes on, with no line of a trace: this one, counted from 1
 abbrev pub IsLineFault : ℕ → List ℕ → Type 0

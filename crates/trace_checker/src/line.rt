@@ -1,6 +1,6 @@
 // The lines of a trace's text.
 
-ghost use Rattle.std.specs.Prelude.{◌≢◌, get_or};
+ghost use Rattle.std.specs.Prelude.{◌≡◌, ◌≢◌, get_or, IsErrOf};
 ghost use Rattle.std.specs.Fmt.{WritesOnOk};
 ghost use Rattle.parsing.specs.Reads.{Reads, ReadsUnlessMemory};
 ghost use Rattle.trace_checker.specs.Grammar.{IsLine, IsAnswerTail, sets_text};
@@ -73,9 +73,10 @@ fn write_numbers<W: fmt::Write>(f: &mut fmt::Formatter<W>, numbers: &[u32]) -> f
 }
 
 impl Line {
-    /// Reads a line without its end.
+    /// Reads a line without its end. Only one that begins as a line of kind sets takes memory.
     pub fn read(alloc: Global, bytes: &[u8]) -> Result<Line, ReadError>
-        ensures { ReadsUnlessMemory IsLine bytes.now result }
+        ensures reads { ReadsUnlessMemory IsLine bytes.now result }
+        ensures memory { IsErrOf result ReadError.Memory → get_or bytes.now 0 0 ≡ 65 }
     {
         if let [b'A', tail @ ..] = bytes {
             return Ok(Line::There(sets_of(alloc, tail)?));

@@ -1,13 +1,13 @@
 // Traces are read from their text.
 
-ghost use Rattle.std.specs.Prelude.{ℕ, suc, ◌<◌, ◌≡◌, ◌++◌, ◌∷◌, [], List, length, true, false, IfOk, IfErr, IsTrue, ◌↔◌, IsErrOf};
+ghost use Rattle.std.specs.Prelude.{ℕ, suc, ◌<◌, ◌≡◌, ◌++◌, ◌∷◌, [], List, length, get_or, true, false, IfOk, IfErr, IsTrue, ◌↔◌, IsErrOf};
 ghost use Rattle.std.specs.List.{position};
 ghost use Rattle.parsing.specs.Reads.{SpellsNone, SpellsOnly};
 ghost use Rattle.model.specs.steps.Schedule.{Recorded};
 ghost use Rattle.trace_checker.specs.Grammar.{is_end, AreFitting, IsLineBefore, lines_from, trace_text};
 ghost use Rattle.trace_checker.specs.declared.line.Line.TheVariants.{Begin, Take, There};
 ghost use Rattle.trace_checker.specs.declared.read.Due.TheVariants.{Nothing};
-ghost use Rattle.trace_checker.specs.TextFaults.{AreBegun, IsLineFault, IsListsFault, IsOrderFault, IsOutOfOrder, begun_runs, is_due, is_listed, is_misplaced, lines_so_far};
+ghost use Rattle.trace_checker.specs.TextFaults.{AreBegun, IsLineFault, IsListsFault, IsOrderFault, IsOutOfOrder, begun_runs, fault_of_line, is_due, is_listed, is_misplaced, lines_so_far};
 
 use crate::line::Line;
 use executor_core::Trace;
@@ -88,8 +88,7 @@ pub fn read_traces(alloc: Global, text: &[u8]) -> Result<Vec<Trace>, TextFault>
         count += 1;
         let (line, behind) = match first_line(alloc, rest) {
             Ok(found) => found,
-            Err(ReadError::Outside) => return Err(TextFault::Line(count)),
-            Err(ReadError::Memory) => return Err(TextFault::Memory),
+            Err(error) => return Err(unread_line(error, count)),
         };
         if is_out_of_order(&traces, due, &line) {
             return Err(TextFault::Order(count));
@@ -103,6 +102,16 @@ pub fn read_traces(alloc: Global, text: &[u8]) -> Result<Vec<Trace>, TextFault>
     match due {
         Due::Nothing => Ok(traces),
         Due::Opening | Due::After(_) => Err(TextFault::Lists(count + 1)),
+    }
+}
+
+// What is told of the line of this number, which is not read: that it is no line, or that an allocation failed.
+fn unread_line(error: ReadError, number: usize) -> TextFault
+    ensures { result ≡ fault_of_line error number }
+{
+    match error {
+        ReadError::Outside => TextFault::Line(number),
+        ReadError::Memory => TextFault::Memory,
     }
 }
 
@@ -120,6 +129,7 @@ fn lists_in(text: &[u8]) -> bool
 fn first_line(alloc: Global, text: &[u8]) -> Result<(Line, &[u8]), ReadError>
     ensures found { IfOk result (λ found. SpellsOnly IsLineBefore text.now (found.0, found.1.now)) }
     ensures outside { IsErrOf result ReadError.Outside → SpellsNone IsLineBefore text.now }
+    ensures memory { IsErrOf result ReadError.Memory → get_or text.now 0 0 ≡ 65 }
 {
     let Some(end) = end_of(text) else {
         return Err(ReadError::Outside);

@@ -1,6 +1,6 @@
 // A recorded run taken again on one thread, each system whole at its start.
 
-ghost use Rattle.std.specs.Prelude.{◌≡◌, ◌⊎◌, ◌<◌, ℕ, [], suc, Result, length, map, slice_get, MatchOption, false, Some, Err, IfOk, IfErr, OnOk, IsTrue};
+ghost use Rattle.std.specs.Prelude.{◌≡◌, ◌≢◌, ◌⊎◌, ◌<◌, ℕ, [], suc, Result, length, map, slice_get, MatchOption, false, Some, Err, IfOk, IfErr, OnOk, IsTrue};
 ghost use Rattle.model.specs.state.Agreement.{AgreesWithAll};
 ghost use Rattle.model.specs.state.State.{State as Now};
 ghost use Rattle.model.specs.shown.Input.{shown};
@@ -28,6 +28,7 @@ use body::{Body, BodyFault, State, View};
 use engine::fitting::prove_fitting_keep;
 use engine::{Deferred, RunFault, RunState, Stop};
 use executor_core::{Step, StepFault, Trace};
+use model::KindSets;
 use schedule_builder::Built;
 use std::alloc::{AllocError, Global};
 use thiserror::Error;
@@ -170,10 +171,21 @@ fn compare_sets(
         return Ok(());
     };
     let there = run.state.kind_sets(run.alloc)?;
-    if !lists[place].is_same(&there) {
-        return Err(ReplayFault::WrongSets(number));
-    }
+    judge_sets(&lists[place], &there, number)?;
     Ok(())
+}
+
+// Judges the kind sets that are recorded after the step of this number by those of the living entities there. Exactly where they differ they are
+// refused, and for nothing else.
+fn judge_sets(recorded: &KindSets, there: &KindSets, number: usize) -> Result<(), ReplayFault>
+    ensures right { OnOk result (recorded.now ≡ there.now) }
+    ensures wrong { IfErr result (λ fault. (fault ≡ ReplayFault.WrongSets number)
+        × (recorded.now ≢ there.now)) }
+{
+    if recorded.is_same(there) {
+        return Ok(());
+    }
+    Err(ReplayFault::WrongSets(number))
 }
 
 // The same right after a step, up to which there are so many sync points: where it is one of them.
@@ -232,9 +244,7 @@ pub fn take<B: Body>(
     match step {
         Step::Cond(condition, recorded) => {
             let answer = run.ask(built, condition)?;
-            if answer != recorded {
-                return Err(ReplayFault::WrongAnswer(number));
-            }
+            judge_answer(answer, recorded, number)?;
             Ok(())
         }
         Step::Start(system) => {
@@ -247,6 +257,19 @@ pub fn take<B: Body>(
             Ok(())
         }
     }
+}
+
+// Judges the answer that the step of this number records by what its condition answers there. Exactly where they differ it is refused, and for
+// nothing else.
+fn judge_answer(answer: bool, recorded: bool, number: usize) -> Result<(), ReplayFault>
+    ensures right { OnOk result (answer ≡ recorded) }
+    ensures wrong { IfErr result (λ fault. (fault ≡ ReplayFault.WrongAnswer number)
+        × (answer ≢ recorded)) }
+{
+    if answer == recorded {
+        return Ok(());
+    }
+    Err(ReplayFault::WrongAnswer(number))
 }
 
 // A whole start: the system is shown the state, its body runs, and what comes of it is laid over the state at once.

@@ -1,10 +1,12 @@
-// What a host does to a world between runs: a new entity, and a tick that is given back.
+// What is done to a world between runs: a new entity, a tick that is given back, and an index of a world that is built again.
 
-ghost use Rattle.std.specs.Prelude.{◌≡◌, ◌-◌, ◌↔◌, false, map, IfOk, OnErr, OnOk, IsErrOf};
+ghost use Rattle.std.specs.Prelude.{◌≡◌, ◌-◌, ◌↔◌, ◌∷◌, ◌++◌, false, [], length, map, IfOk, OnErr, OnOk, IsErrOf};
 ghost use Rattle.std.specs.List.{AllByRecursion};
 ghost use Rattle.kinds.specs.Components.{widths};
 ghost use Rattle.model.specs.state.Rows.{IsRising};
-ghost use Rattle.model.specs.state.Shape.{IsComponent, IsWorld};
+ghost use Rattle.model.specs.state.State.{most_indices};
+ghost use Rattle.model.specs.state.Shape.{IsComponent, IsSlot, IsWorld};
+ghost use Rattle.entity_table.specs.Status.{empty_slot};
 ghost use Rattle.model.specs.state.Ids as ids;
 ghost use Rattle.model.specs.sessions.Inputs.{next_id};
 ghost use Rattle.archetype_store.specs.Row.{component_of};
@@ -15,7 +17,7 @@ ghost use Rattle.archetype_store.specs.Store.{at_clock, with_slots};
 use crate::fault::GrantFault;
 use crate::store::World;
 use column_store::Components;
-use entity_table::Entity;
+use entity_table::{Entity, Status};
 use std::alloc::Global;
 
 impl World {
@@ -35,6 +37,20 @@ impl World {
         ensures home { AreAllHome self.new.layout }
     {
         self.slots.spawn(alloc, components)
+    }
+
+    /// Adds the index behind the last one, at this generation and status, without components: a world is built again from one that was written
+    /// down. `IdsSpent` where no index is left. After an error nothing has changed.
+    pub fn push_slot(&mut self, generation: u32, status: Status) -> Result<(), GrantFault>
+        requires { IsSlot (λ kind. 0) 0 (empty_slot generation status) }
+        ensures ok { OnOk result (self.new.state
+            ≡ with_slots (λ slots. slots ++ empty_slot generation status ∷ []) self.old.state) }
+        ensures spent { IsErrOf result GrantFault.IdsSpent
+            ↔ (length self.old.state.slots ≡ most_indices) }
+        ensures layout { self.new.layout ≡ self.old.layout }
+        ensures err { OnErr result (self.new ≡ self.old) }
+    {
+        self.slots.push(generation, status)
     }
 
     /// Takes the last tick of the clock back, which stands nowhere in the world yet.

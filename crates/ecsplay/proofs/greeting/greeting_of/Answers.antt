@@ -10,10 +10,10 @@ filtered false P h = (λ e. absurd (cc), λ p. let no = h.1 p in absurd (cc))
 
 pub returns : goal.returns
 returns c =
-    IfOk-weaker c.text_of.result _ (λ text. IsGreeting c.args.file.now c.args.built.now c.args.workers (string_bytes text)) (λ text is. record {
+    IfOk-weaker c.text_of.result _ (λ text. IsGreeting c.args.file c.args.built.now c.args.workers (string_bytes text)) (λ text is. record {
       settled = c.is_settled-settled.result;
       settles = c.is_settled-settled.ensures;
       filters = not c.is_unfiltered-unfiltered.result;
       filtered = filtered c.is_unfiltered-unfiltered.result _ c.is_unfiltered-unfiltered.ensures;
-      same = is ∙ ap₂ (λ digest systems. greeting_text digest systems c.args.workers c.is_settled-settled.result (not c.is_unfiltered-unfiltered.result)) (c.hex_of-digest.ensures ∙ c.digest.ensures) c.count.ensures;
+      same = is ∙ ap₂ (λ digest systems. greeting_text digest systems c.args.workers c.is_settled-settled.result (not c.is_unfiltered-unfiltered.result)) c.hex_of.ensures c.count.ensures;
     }) c.text_of.ensures

@@ -7,6 +7,7 @@ use Rattle.program.proofs.Serving.{accepted, is-file, place-unread}
 use Rattle.toml.specs.Parse.{parse_document}
 use Rattle.toml.specs.View.{table_view}
 use Rattle.findings.specs.Refusals.{IsUnloaded}
+use Rattle.findings.proofs.SetsLoaded.{sets_loaded}
 use Rattle.findings.proofs.loading.load.Goals as goal
 
 -- it is that of an accepted file
@@ -23,6 +24,8 @@ returns-clause-loaded c = λ bytes within parsed.
       scripts = is.scripts;
       entities = is.entities;
       resources = is.resources;
+      sets = sets_loaded c.in_ok-tables.tables.sets.items c.in_ok-tables.tables.systems.items c.in_ok-tables.tables.chains.items _ _ c.in_ok-sets.sets c.as_slice.ensures.value c.as_slice-2.ensures.value is.schedule.buildable
+          c.in_ok-sets.ensures;
     }
 
 -- the document is not read

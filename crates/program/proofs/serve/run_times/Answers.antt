@@ -1,11 +1,12 @@
-use Rattle.std.proofs.Common.{◌≡◌, ◌≤◌, ◌+◌, ◌-◌, ◌++◌, true, length, IsSome, sym, ap, ◌∙◌, subst, refl, arith}
+use Rattle.std.proofs.Common.{◌≡◌, ◌≤◌, ◌+◌, ◌-◌, ◌++◌, true, length, None, IsSome, sym, ap, ◌∙◌, subst, refl, arith}
 use Rattle.std.proofs.Math.Nat.{min-le_left}
+use Rattle.model.proofs.lists.Results.{handed_on}
 use Rattle.model.specs.steps.Schedule.{Schedule}
 use Rattle.engine.specs.Meanings.{meanings}
 use Rattle.engine.proofs.AtHome.{unlike}
-use Rattle.program.specs.Recorded.{IsKeptOf}
+use Rattle.program.specs.Recorded.{HaveKept, IsKeptOf}
 use Rattle.program.specs.Setup.{script_means}
-use Rattle.program.proofs.Noting.{next-noted, none-noted}
+use Rattle.program.proofs.Noting.{next-noted, none-noted, noted_all, noted_long}
 use Rattle.program.specs.Refused.{IsUnrun}
 use Rattle.program.proofs.Serving.{of-given}
 use Rattle.program.proofs.Stopping.{next-told}
@@ -64,3 +65,30 @@ returns-in_err-traces-clause-stopped g c =
     (λ fault is. subst (IsUnrun there width s bodies c.args.times c.args.engine.now.state c.args.recorded) (sym is)
     (next-told there width s now.schedule bodies (meanings script_means now.schedule now.bodies) c.args.engine.now.state now.state inv.noted.traces c.min-count.result c.args.times c.args.recorded c.in_err-traces.field-0.0
     inv.schedule (ap (λ (t : Schedule). meanings script_means t now.bodies) inv.schedule ∙ inv.meant) inv.noted.runs within c.in_err-traces.ensures.stopped))
+
+-- nothing is kept of the record of all runs, as it is too long
+pub returns-in_err-noted-clause-stopped : goal.returns-in_err-noted-clause-stopped
+returns-in_err-noted-clause-stopped g c =
+    let s = c.args.engine.now.schedule in
+    let there = g.M.SpawnThreads.has_scope c.args.mode.now in
+    let width = g.M.Mode.width c.args.mode.now in
+    let bodies = meanings script_means s c.args.engine.now.bodies in
+    let start = c.args.engine.now.state in
+    let inv = c.loop-done.invariant in
+    let told = c.in_err-noted.ensures.long in
+    let all : c.loop-done.done ≡ c.args.times = omega (arith, inv.within, c.loop-done-test.false) in
+    let kept : HaveKept width s bodies start c.loop-done.done c.args.recorded c.loop-done.engine.state None = subst (HaveKept width s bodies start c.loop-done.done c.args.recorded c.loop-done.engine.state) told.1 inv.noted in
+    handed_on (IsUnrun there width s bodies c.args.times start c.args.recorded) c.from_residual-in_err-noted.result c.in_err-noted.field-0.0 c.from_residual-in_err-noted.ensures.1
+    (subst (IsUnrun there width s bodies c.args.times start c.args.recorded) (sym told.0) (noted_long width s bodies start c.loop-done.engine.state c.loop-done.done c.args.times c.args.recorded all kept))
+
+-- the record of all runs is kept
+pub returns-clause-noted : goal.returns-clause-noted
+returns-clause-noted g c =
+    let s = c.args.engine.now.schedule in
+    let width = g.M.Mode.width c.args.mode.now in
+    let bodies = meanings script_means s c.args.engine.now.bodies in
+    let start = c.args.engine.now.state in
+    let inv = c.loop-done.invariant in
+    let all : c.loop-done.done ≡ c.args.times = omega (arith, inv.within, c.loop-done-test.false) in
+    noted_all width s bodies start c.loop-done.engine.state c.loop-done.done c.args.times c.args.recorded c.in_ok-noted.noted all
+    (subst (HaveKept width s bodies start c.loop-done.done c.args.recorded c.loop-done.engine.state) c.in_ok-noted.ensures.kept inv.noted)

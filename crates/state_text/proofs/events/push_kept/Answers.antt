@@ -2,7 +2,7 @@ use Rattle.std.proofs.Common.{string_bytes}
 use Rattle.std.proofs.lemmas.Result.{on_ok_weaker}
 use Rattle.kinds.specs.Res.{event_number}
 use Rattle.model.specs.state.Events.{queue_of}
-use Rattle.state_text.proofs.Newer.{kept_words}
+use Rattle.state_text.proofs.KeptValues.{kept_words}
 use Rattle.state_text.proofs.events.push_kept.Goals as goal
 
 pub returns : goal.returns

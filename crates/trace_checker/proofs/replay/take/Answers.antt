@@ -12,8 +12,8 @@ use Rattle.model.specs.steps.Schedule.{access_of}
 use Rattle.trace_checker.specs.declared.replay.ReplayFault.TheVariants as replay
 use Rattle.model.specs.runs.Replays.{IsStepTaken}
 use Rattle.trace_checker.specs.ReplayFaults.{IsStepFault, IsStoppedHere}
-use Rattle.trace_checker.proofs.Taking.{step_told}
-use Rattle.trace_checker.proofs.WholeStarts.{ask_taken, same_bool, suits_asked, suits_synced}
+use Rattle.trace_checker.proofs.Taking.{answer_told, step_told}
+use Rattle.trace_checker.proofs.WholeStarts.{ask_taken, suits_asked, suits_synced}
 use Rattle.trace_checker.proofs.replay.take.Goals as goal
 use Rattle.model.proofs.lists.Results.{handed_on}
 
@@ -47,20 +47,31 @@ returns-in_err-sync-in-Sync-clause-stopped g c =
     (subst (λ (x : Step). IsStoppedHere s ms run x (fault_of told)) (sym c.in-Sync.is)
     (step_told s ms run (Sync c.in-Sync.point) (CannotSync s c.in-Sync.point run) told (λ met e. e) c.in_err-sync-in-Sync.ensures.stopped))
 
-pub returns-else-answer-recorded-clause-taken : goal.returns-else-answer-recorded-clause-taken
-returns-else-answer-recorded-clause-taken g c =
+pub returns-in_err-judge_answer-in-Cond-clause-stopped : goal.returns-in_err-judge_answer-in-Cond-clause-stopped
+returns-in_err-judge_answer-in-Cond-clause-stopped g c =
+    let s = c.args.built.now in
+    let ms = meanings g.B.Body.meaning s (map Some c.args.bodies.now) in
+    let run = run_with c.args.run.now.state.state c.args.run.now.deferred in
+    let told = c.in_err-judge_answer-in-Cond.field-0.0 in
+    let ok = c.in_ok-answer-in-Cond.ensures in
+    handed_on (IsStepFault s ms run c.args.step c.args.number) c.from_residual-in_err-judge_answer-in-Cond.result told c.from_residual-in_err-judge_answer-in-Cond.ensures.1
+    (subst (λ (x : Step). IsStepFault s ms run x c.args.number told) (sym c.in-Cond.is)
+    (answer_told s ms run c.in-Cond.condition c.in_ok-answer-in-Cond.answer c.in-Cond.recorded c.args.number told ok.ticked ok.answer c.in_err-judge_answer-in-Cond.ensures.wrong))
+
+pub returns-in_ok-judge_answer-in-Cond-clause-taken : goal.returns-in_ok-judge_answer-in-Cond-clause-taken
+returns-in_ok-judge_answer-in-Cond-clause-taken g c =
     let s = c.args.built.now in
     let w = c.args.run.now.state.state in
     let deferred = c.args.run.now.deferred in
     let ms = meanings g.B.Body.meaning s (map Some c.args.bodies.now) in
     let ok = c.in_ok-answer-in-Cond.ensures in
-    let same : c.in_ok-answer-in-Cond.answer ≡ c.in-Cond.recorded = same_bool c.in_ok-answer-in-Cond.answer c.in-Cond.recorded c.if-answer-recorded.false in
+    let same : c.in_ok-answer-in-Cond.answer ≡ c.in-Cond.recorded = c.in_ok-judge_answer-in-Cond.ensures.right in
     subst (λ (x : Step). IsStepTaken s ms (run_with w deferred) x (run_with c.ask.new.self.state.state c.ask.new.self.deferred)) (sym c.in-Cond.is)
     (subst (λ (x : DeferredValue). IsStepTaken s ms (run_with w deferred) (Cond c.in-Cond.condition c.in-Cond.recorded) (run_with c.ask.new.self.state.state x)) (sym c.ask.ensures.deferred)
     (ask_taken s ms c.in-Cond.condition c.in-Cond.recorded w c.ask.new.self.state.state deferred ok.ticked (ap (λ (x : StateValue). x.state) ok.asked) (sym same ∙ ok.answer)))
 
-pub returns-else-answer-recorded-clause-stands : goal.returns-else-answer-recorded-clause-stands
-returns-else-answer-recorded-clause-stands g c =
+pub returns-in_ok-judge_answer-in-Cond-clause-stands : goal.returns-in_ok-judge_answer-in-Cond-clause-stands
+returns-in_ok-judge_answer-in-Cond-clause-stands g c =
     let s = c.args.built.now in
     let w = c.args.run.now.state in
     let later = c.ask.new.self.state in

@@ -20,7 +20,7 @@ invariant_of-self-in-Ok-None g c = live_with g.B.Body.fits c.self.inside.engine 
 pub returns-in-Ok-None : goal.returns-in-Ok-None
 returns-in-Ok-None g c =
     let put = input_of c.args.input.now in
-    let old : Live g.row.B.Denot = record { engine = c.self.inside.engine; marks = c.self.inside.marks; greeting = string_bytes c.self.inside.greeting } in
+    let old : Live g.row.B.Denot = record { engine = c.self.inside.engine; marks = c.self.inside.marks; file = c.self.inside.file; greeting = string_bytes c.self.inside.greeting } in
     let new : Live g.row.B.Denot = with_engine c.input.new.self old in
     let none : input_id put (state_in c.args.self.now) ≡ None = subst (λ (l : Live g.row.B.Denot). input_id put (state_in l) ≡ None) c.self.view_is (sym c.in-Ok-None.ensures.id ∙ c.in-Ok-None.field-0-is) in
     subst (λ (reply : Reply). IsAnswer g.B.Body.meaning false 1 c.args.self.now (asked.Put put) reply new) (sym c.done-in-Ok-None.ensures) (
