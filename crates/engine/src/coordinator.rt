@@ -24,7 +24,8 @@ ghost use Rattle.engine.specs.declared.stop.Stop.TheVariants as stop;
 
 use crate::bodies::Bodies;
 use crate::jobs::{Jobs, bring_home, finish, run_here, start};
-use crate::recording::{Recording, RestingCore, begin};
+use crate::recording::{Recording, begin};
+use crate::resting::RestingCore;
 use crate::run_state::RunState;
 use crate::stop::Stop;
 use crate::turn::{Done, Turn, next_turn};

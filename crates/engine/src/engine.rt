@@ -15,7 +15,7 @@ use crate::deferred::Deferred;
 use crate::faults::{NewFault, RunFault};
 use crate::fitting::check_parts;
 use crate::jobs::Jobs;
-use crate::recording::RestingCore;
+use crate::resting::RestingCore;
 use crate::run_state::RunState;
 use crate::shapes::keep_shapes;
 use body::{Body, State};
