@@ -5,6 +5,7 @@ ghost use Rattle.engine.specs.Meanings.{meanings, AreFit, Miscounts, IsFirstMisf
 ghost use Rattle.engine.specs.RunsAs.{RunsAs};
 ghost use Rattle.engine.specs.Stops.{StopsAs};
 
+mod here;
 mod kept;
 mod sessions;
 
