@@ -63,6 +63,12 @@ module _ (s : Schedule) (k : ℕ) (built : IsBuilt s) where
     pub spawners_count : length deferred.spawners ≡ s.syncs
     spawners_count = ap length suits.spawners_are ∙ length-map deferred.levels (spawners_among s) ∙ suits.level_count
 
+    -- where nobody is kept of a level, nobody is granted ids
+    pub nobody_kept : k < s.syncs → (length (get_or deferred.spawners k no_spawners).systems == 0) ≡ true → spawners_of_level s k ≡ []
+    nobody_kept within e =
+        let kept = get_or deferred.spawners k no_spawners in
+        sym (ap (λ (x : SpawnersValue). x.systems) (spawners_there within)) ∙ no_elements kept.systems (eqb-true (length kept.systems) 0 e)
+
     -- what is found of a level
     pub spawners_here : k < s.syncs → (found : SpawnersValue) → found ≡ get_or deferred.spawners k found → (found.systems ≡ spawners_of_level s k) × (found.counts ≡ counts_of_level s k)
     spawners_here within found e =

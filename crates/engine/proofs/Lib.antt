@@ -6,6 +6,7 @@ pub mod LevelGrants
 pub mod Syncing
 mod Emptying
 mod Freeing
+mod Idle
 mod SameKindSets
 mod Commanded
 mod Levelling

@@ -11,7 +11,7 @@ ghost use Rattle.model.specs.declared.steps.Step.TheVariants.{Finish, Start as B
 ghost use Rattle.model.specs.declared.steps.Ready.TheVariants as ready;
 ghost use Rattle.model.specs.steps.Lawful.{May};
 ghost use Rattle.model.specs.runs.WideRuns.{AreWideRuns, WideStops, IsWideStopped};
-ghost use Rattle.executor_core.specs.Stands.{Stands};
+ghost use Rattle.executor_core.specs.Stands.{IsPlainStep, Stands};
 ghost use Rattle.executor_core.specs.Traces.{latest_list, with_list};
 ghost use Rattle.engine.specs.Latest.{IsCoreFor, IsFollowing, IsOneMoreRun};
 ghost use Rattle.engine.specs.Jobs.{AreKept};
@@ -24,7 +24,8 @@ ghost use Rattle.engine.specs.declared.stop.Stop.TheVariants as stop;
 
 use crate::bodies::Bodies;
 use crate::jobs::{Jobs, bring_home, finish, run_here, start};
-use crate::recording::{Recording, RestingCore, begin};
+use crate::recording::{Recording, begin};
+use crate::resting::RestingCore;
 use crate::run_state::RunState;
 use crate::stop::Stop;
 use crate::turn::{Done, Turn, next_turn};
@@ -35,7 +36,8 @@ use schedule_builder::Built;
 use std::alloc::{AllocError, Global};
 use worker_pool::Mode;
 
-/// The runs of a schedule, one after the other. After a stop all jobs have come back, and their bodies are in their places.
+/// The runs of a schedule, one after the other: on this thread where there is room for one system and nobody else has a hand in it. After a stop all
+/// jobs have come back, and their bodies are in their places.
 pub(crate) fn run_times<'s, M: Mode<'s>, B: Body + 's>(
     built: &Built,
     run: &mut RunState,
@@ -67,9 +69,12 @@ pub(crate) fn run_times<'s, M: Mode<'s>, B: Body + 's>(
     ensures fit { (result ≡ Err stop.NoWorker → IsTrue (M.stands mode.now))
         → AreFit B.fits built.now jobs.new.bodies }
 {
+    if mode.width() == 1 && mode.scope().is_none() {
+        return run_times_here(built, run, &mut jobs.bodies, resting, times);
+    }
     let mut recording = Recording::open(run.alloc, built, &run.state, resting.take())?;
     for _run in 0..times {
-        match one_run(built, run, jobs, &mut recording, mode) {
+        match run_turns(built, run, jobs, &mut recording, mode) {
             Ok(()) => {}
             Err(stop) => {
                 bring_home(jobs, mode)?;
@@ -80,39 +85,6 @@ pub(crate) fn run_times<'s, M: Mode<'s>, B: Body + 's>(
     let (traces, core) = recording.end();
     *resting = Some(core);
     Ok(traces)
-}
-
-// One run more: in a loop of its own where there is one thread and nobody else has a hand in it.
-fn one_run<'s, M: Mode<'s>, B: Body + 's>(
-    built: &Built,
-    run: &mut RunState,
-    jobs: &mut Jobs<B>,
-    recording: &mut Recording<'_>,
-    mode: &M,
-) -> Result<(), Stop>
-    requires rest { IsAtRest B.meaning B.fits built.now jobs.old.bodies run.old.deferred
-        run.old.state }
-    requires empty { jobs.old.pool ≡ [] }
-    requires following { IsFollowing recording.old.core.value built.now recording.old.sets
-        run.old.state.state.world.slots }
-    ensures ran { OnOk result (IsOneMoreRun (M.width mode.now) built.now
-        (meanings B.meaning built.now jobs.old.bodies) run.old.state.state
-        recording.old.traces.items run.new.state.state recording.new.traces.items) }
-    ensures following { OnOk result (IsFollowing recording.new.core.value built.now
-        recording.new.sets run.new.state.state.world.slots) }
-    ensures rest { OnOk result (IsAtRest B.meaning B.fits built.now jobs.new.bodies run.new.deferred
-        run.new.state) }
-    ensures empty { OnOk result (jobs.new.pool ≡ []) }
-    ensures stopped { IfErr result (StopsBy (M.has_scope mode.now) (WideStops (M.width mode.now)
-        built.now (meanings B.meaning built.now jobs.old.bodies) run.old.state.state)) }
-    ensures kept { (result ≡ Err stop.NoWorker → IsTrue (M.stands mode.now))
-        → AreKept B.meaning B.fits (M.has_scope mode.now) built.now
-        (meanings B.meaning built.now jobs.old.bodies) jobs.new.bodies jobs.new.pool }
-{
-    if mode.width() == 1 && mode.scope().is_none() {
-        return run_alone(built, run, &mut jobs.bodies, recording);
-    }
-    run_turns(built, run, jobs, recording, mode)
 }
 
 // One run more, by its turns. After a stop jobs may still be out.
@@ -255,13 +227,26 @@ fn take(
     ensures schedule { core.new.schedule ≡ core.old.schedule }
 {
     let Step::Sync(point) = done.step else {
-        trace.push(done.step)?;
-        core.accept(done.step);
-        return Ok(());
+        return note(core, trace, done.step);
     };
     let sets = sets_now(alloc, trace, state, done.commanded)?;
     pass(core, trace, point, &sets);
     trace.push_sync(point, sets)
+}
+
+// Takes a step that may come and is no sync point, and records it.
+fn note(core: &mut Core<'_>, trace: &mut Trace, step: Step) -> Result<(), AllocError>
+    requires plain { IsPlainStep trace.old.sets step }
+    requires stands { Stands core.old trace.old.sets trace.old.steps }
+    requires may { May (recording core.old.schedule trace.old.sets) trace.old.steps step }
+    ensures steps { OnOk result (trace.new.steps ≡ step ∷ trace.old.steps) }
+    ensures sets { OnOk result (trace.new.sets ≡ trace.old.sets) }
+    ensures stands { OnOk result (Stands core.new trace.new.sets trace.new.steps) }
+    ensures schedule { core.new.schedule ≡ core.old.schedule }
+{
+    trace.push(step)?;
+    core.accept(step);
+    Ok(())
 }
 
 // The kind sets that are there now. Where no commands were done they are those recorded last, and the world isn't asked.
@@ -345,20 +330,8 @@ fn start_alone<B: Body>(
 {
     built.prove_law();
     run_here(built, run, bodies, system)?;
-    take(
-        run.alloc,
-        core,
-        trace,
-        &run.state,
-        Done::plain(Step::Start(system)),
-    )?;
-    take(
-        run.alloc,
-        core,
-        trace,
-        &run.state,
-        Done::plain(Step::Finish(system)),
-    )?;
+    note(core, trace, Step::Start(system))?;
+    note(core, trace, Step::Finish(system))?;
     Ok(())
 }
 
@@ -396,6 +369,40 @@ fn turn_alone<B: Body>(
     let done = do_plain::<B>(built, run, offer)?;
     take(run.alloc, core, trace, &run.state, done)?;
     Ok(())
+}
+
+/// The runs of a schedule, one after the other, on this thread: each body runs in its place.
+pub(crate) fn run_times_here<B: Body>(
+    built: &Built,
+    run: &mut RunState,
+    bodies: &mut Bodies<B>,
+    resting: &mut Option<RestingCore>,
+    times: u32,
+) -> Result<Vec<Trace>, Stop>
+    requires rest { IsAtRest B.meaning B.fits built.now bodies.old run.old.deferred run.old.state }
+    requires core { IfSome resting.old (λ it. IsCoreFor it.room built.now it.sets) }
+    ensures count { IfOk result (λ traces. length traces.items ≡ times) }
+    ensures records { IfOk result (λ traces. AllByRecursion (λ r. is_some r.sets ≡ true)
+        traces.items) }
+    ensures ran { IfOk result (λ traces. AreWideRuns 1 built.now
+        (meanings B.meaning built.now bodies.old) run.old.state.state traces.items
+        run.new.state.state) }
+    ensures rest { OnOk result (IsAtRest B.meaning B.fits built.now bodies.new run.new.deferred
+        run.new.state) }
+    ensures core { IfSome resting.new (λ it. IsCoreFor it.room built.now it.sets) }
+    ensures stopped { IfErr result (StopsBy false (IsWideStopped 1 built.now
+        (meanings B.meaning built.now bodies.old) times run.old.state.state)) }
+    ensures meanings { meanings B.meaning built.now bodies.new
+        ≡ meanings B.meaning built.now bodies.old }
+    ensures fit { AreFit B.fits built.now bodies.new }
+{
+    let mut recording = Recording::open(run.alloc, built, &run.state, resting.take())?;
+    for _run in 0..times {
+        run_alone(built, run, bodies, &mut recording)?;
+    }
+    let (traces, core) = recording.end();
+    *resting = Some(core);
+    Ok(traces)
 }
 
 // One run more on one thread, by its turns.

@@ -1,7 +1,7 @@
 // What the systems of a schedule leave for the sync points of their levels: the commands of those that finished, and the ids that each was
 // granted.
 
-ghost use Rattle.std.specs.Prelude.{◌≡◌, ◌<◌, ◌↔◌, ℕ, [], suc, true, false, length, get_or, All, IfErr, IfOk, IsErrOf, OnOk};
+ghost use Rattle.std.specs.Prelude.{◌≡◌, ◌==◌, ◌<◌, ◌↔◌, ℕ, [], suc, true, false, length, get_or, All, IfErr, IfOk, IsErrOf, OnOk};
 ghost use Rattle.model.specs.Lists.{IsIn, is_there};
 ghost use Rattle.model.specs.state.Commands.{release};
 ghost use Rattle.model.specs.steps.Schedule.{Schedule, level_of};
@@ -10,7 +10,7 @@ ghost use Rattle.model.specs.runs.RunState.{after_commands, after_grant, after_s
 ghost use Rattle.model.specs.state.KindSets.{kind_sets_of};
 ghost use Rattle.command_queue.specs.Commands.{commands_of};
 ghost use Rattle.body.specs.Steps.{with_slots_in};
-ghost use Rattle.engine.specs.Deferred.{AreInHand, IsDeferredFor, IsNothingDeferred, commands_at, emptied, grants_at, grants_of, nothing_deferred, run_with, with_commands, with_each_grant};
+ghost use Rattle.engine.specs.Deferred.{AreInHand, IsDeferredFor, IsNothingDeferred, commands_at, emptied, grants_at, grants_of, no_spawners, nothing_deferred, run_with, with_commands, with_each_grant};
 ghost use Rattle.engine.specs.Shows.{NoneRunsIn};
 ghost use Rattle.engine.specs.Stops.{CannotSync, LacksTick, StopsBy};
 
@@ -72,9 +72,12 @@ pub struct Deferred {
     spawners: Vec<Spawners>,
     commands: Vec<CommandBuffer>,
     grants: Vec<Granted>,
+    // Whether something may be deferred: else there is no command and no id.
+    has_some: bool,
 }
 
 impl Model for Deferred {
+    ghost use Rattle.std.specs.Prelude.{◌≡◌, ℕ, [], false, get_or};
     ghost use Rattle.engine.specs.Deferred.{DeferredValue};
 
     ghost Value = { DeferredValue };
@@ -85,6 +88,10 @@ impl Model for Deferred {
       commands = l.commands.items;
       grants = l.grants.items;
     } };
+
+    ghost invariant = { λ l. l.has_some ≡ false
+        → ((n : ℕ) → get_or l.commands.items n [] ≡ [])
+        × ((n : ℕ) → get_or l.grants.items n [] ≡ []) };
 }
 
 impl Deferred {
@@ -109,6 +116,7 @@ impl Deferred {
             spawners,
             commands,
             grants,
+            has_some: false,
         })
     }
 
@@ -121,6 +129,7 @@ impl Deferred {
             spawners: Vec::new(alloc),
             commands: Vec::new(alloc),
             grants: Vec::new(alloc),
+            has_some: false,
         }
     }
 
@@ -129,8 +138,12 @@ impl Deferred {
         ensures suits { (s : Schedule) → IsDeferredFor s self.old → IsDeferredFor s self.new }
         ensures nothing { IsNothingDeferred self.new }
     {
+        if !self.has_some {
+            return;
+        }
         empty_commands(&mut self.commands);
         empty_grants(&mut self.grants);
+        self.has_some = false;
     }
 
     /// The buffer of a system that has deferred nothing, for its next commands.
@@ -179,9 +192,21 @@ impl Deferred {
         if built.syncs() <= level {
             return Ok(());
         }
+        if self.grants_none(level) {
+            return Ok(());
+        }
+        self.has_some = true;
         let spawners = &mut self.spawners[level as usize];
         spawners.grant(alloc, state, &mut self.grants)?;
         Ok(())
+    }
+
+    // Whether no system of a level is granted ids.
+    fn grants_none(&self, level: u32) -> bool
+        requires { level < length self.now.spawners }
+        ensures { result ≡ length (get_or self.now.spawners level no_spawners).systems == 0 }
+    {
+        self.spawners[level as usize].is_empty()
     }
 
     /// Keeps the commands of a system that finished.
@@ -189,6 +214,11 @@ impl Deferred {
         requires known { system < length self.old.commands }
         ensures { self.new ≡ with_commands system commands self.old }
     {
+        if commands.is_empty() {
+            self.commands[system] = commands;
+            return;
+        }
+        self.has_some = true;
         self.commands[system] = commands;
     }
 
@@ -245,6 +275,9 @@ impl Deferred {
     {
         built.prove_law();
         let tick = state.next()?;
+        if !self.has_some {
+            return Ok(false);
+        }
         let systems = systems_of(&self.levels, point);
         let commanded = have_commands(&self.commands, systems);
         state.apply(alloc, &self.commands, systems, tick)?;

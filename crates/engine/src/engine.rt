@@ -5,6 +5,7 @@ ghost use Rattle.engine.specs.Meanings.{meanings, AreFit, Miscounts, IsFirstMisf
 ghost use Rattle.engine.specs.RunsAs.{RunsAs};
 ghost use Rattle.engine.specs.Stops.{StopsAs};
 
+mod here;
 mod kept;
 mod sessions;
 
@@ -15,7 +16,7 @@ use crate::deferred::Deferred;
 use crate::faults::{NewFault, RunFault};
 use crate::fitting::check_parts;
 use crate::jobs::Jobs;
-use crate::recording::RestingCore;
+use crate::resting::RestingCore;
 use crate::run_state::RunState;
 use crate::shapes::keep_shapes;
 use body::{Body, State};

@@ -7,6 +7,7 @@ ghost use Rattle.model.specs.steps.Schedule.{access_of, params_of};
 ghost use Rattle.engine.specs.FirstState.{first_conditions, first_state, first_systems};
 ghost use Rattle.engine.specs.Meanings.{HasMemories, LacksMemories};
 
+use crate::shapes::keep_shapes;
 use archetype_store::World;
 use body::{Memories, Memory, State};
 use event_buffers::Events;
@@ -20,14 +21,16 @@ pub fn first_state(alloc: Global, built: &Built, world: World) -> Result<State, 
 {
     let systems = systems_of(alloc, built)?;
     let conditions = conditions_of(alloc, built)?;
-    Ok(State::new(
+    let mut state = State::new(
         world,
         Events::new(alloc),
         Memories {
             systems,
             conditions,
         },
-    ))
+    );
+    keep_shapes(built, &mut state)?;
+    Ok(state)
 }
 
 // The memories of the systems of a schedule that never ran.

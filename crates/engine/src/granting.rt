@@ -1,6 +1,6 @@
 // Which systems of a level are granted ids, how many each, and where those are noted.
 
-ghost use Rattle.std.specs.Prelude.{◌≡◌, ◌<◌, ◌↔◌, false, length, map, filter, All, IfOk, IsErrOf, OnOk};
+ghost use Rattle.std.specs.Prelude.{◌≡◌, ◌==◌, ◌<◌, ◌↔◌, false, length, map, filter, All, IfOk, IsErrOf, OnOk};
 ghost use Rattle.std.specs.Option.{is_some};
 ghost use Rattle.model.specs.state.Ids.{grant_each, has_ids_for_each, ids_of_each};
 ghost use Rattle.model.specs.steps.Schedule.{params_of};
@@ -34,6 +34,13 @@ impl Model for Spawners {
 }
 
 impl Spawners {
+    // Whether there is none.
+    pub(crate) fn is_empty(&self) -> bool
+        ensures { result ≡ length self.now.systems == 0 }
+    {
+        self.systems.is_empty()
+    }
+
     // Grants each of these systems its ids, and notes them in its place. The list that held its ids before is room for the next grant: once two
     // were made, a grant takes no memory for ids.
     pub(crate) fn grant(

@@ -12,6 +12,7 @@ pub mod fitting;
 mod granting;
 mod jobs;
 mod recording;
+pub mod resting;
 pub mod run_state;
 mod shapes;
 pub mod stop;

@@ -5,20 +5,12 @@ ghost use Rattle.executor_core.specs.Stands.{AreMeetings, Stands};
 ghost use Rattle.executor_core.specs.Traces.{latest_list};
 ghost use Rattle.engine.specs.Latest.{IsCoreFor, IsFollowing};
 
+use crate::resting::{RestingCore, core_in};
 use body::OpenState;
-use executor_core::{Core, CoreRoom, Trace};
+use executor_core::{Core, Trace};
 use model::KindSets;
 use schedule_builder::Built;
 use std::alloc::{AllocError, Global};
-
-/// A core that is put by between calls, and the kind sets in which it knows who meets whom.
-#[derive(Drop)]
-pub(crate) struct RestingCore {
-    /// The core.
-    pub(crate) room: CoreRoom,
-    /// The kind sets.
-    pub(crate) sets: KindSets,
-}
 
 /// The traces of the runs of a call, the core that has taken their steps, and the kind sets that are there between them. The core stands in a box: a
 /// loop that holds it by itself is dear to check.
@@ -81,28 +73,6 @@ impl<'a> Recording<'a> {
         let room = Box::into_inner(core).into_room();
         (traces, RestingCore { room, sets })
     }
-}
-
-// A core for a schedule, which knows who meets whom in these kind sets.
-fn core_in<'a>(
-    alloc: Global,
-    built: &'a Built,
-    sets: &KindSets,
-    resting: Option<RestingCore>,
-) -> Result<Core<'a>, AllocError>
-    requires { IfSome resting (λ it. IsCoreFor it.room built.now it.sets) }
-    ensures { IfOk result (λ core. IsCoreFor core built.now sets.now) }
-{
-    let Some(RestingCore { room, sets: known }) = resting else {
-        let core = Core::new_in(alloc, built, sets)?;
-        return Ok(core);
-    };
-    let mut core = room.into_core(built);
-    if known.is_same(sets) {
-        return Ok(core);
-    }
-    core.begin_in(alloc, sets)?;
-    Ok(core)
 }
 
 /// Begins a core again for a run that opens with the kind sets in which it knows who meets whom, and what is recorded of it.

@@ -1,5 +1,5 @@
 -- The entries of lines.
-use Rattle.std.proofs.Common.{◌≡◌, ℕ, true, List, [], ◌∷◌, refl, sym, ap, ◌∙◌, subst}
+use Rattle.std.proofs.Common.{◌≡◌, ◌<◌, ℕ, Bool, true, List, [], ◌∷◌, arith, refl, sym, ap, ap₂, ◌∙◌, subst}
 use Rattle.parsing.specs.Reads.{SpellsOnly}
 use Rattle.model.specs.access.Access.{Params}
 use Rattle.model.specs.shown.Outcome.{BodyMeaning}
@@ -7,13 +7,17 @@ use Rattle.model.specs.steps.Schedule.{Recorded}
 use Rattle.requests.specs.Asked.{Asked}
 use Rattle.requests.specs.Grammar.{IsRequest}
 use Rattle.session.specs.Body.{ended}
-use Rattle.session.specs.Entries.{AreRunsOf, HasEntry, IsEntry, entry_text, line_entry, load_entry}
+use Rattle.session.specs.Entries.{AreRunsOf, HasEntry, HaveText, IsEntry, entry_text, line_entry, load_entry}
 use Rattle.session.specs.Live.{Live}
 use Rattle.session.specs.Plays.{IsUnasked, Sent}
 use Rattle.session.specs.Plays.Sent.{Line, Loads, TooLong}
 use Rattle.session.specs.Replies.{reply_text}
 use Rattle.session.specs.declared.reply.Reply.{Reply}
 use Rattle.session.specs.declared.reply.Reply.TheVariants.{Done, Refused, Failed, Lost}
+
+-- no runs have a text
+pub no_runs : (traces : List Recorded) → traces ≡ [] → HaveText traces
+no_runs traces none = subst HaveText (sym none) (record { few = omega arith; alike = (true, tt) })
 
 module _ {B : Type 0} (meaning : B → Params → BodyMeaning) (width : ℕ) (old new : Live B) where
   -- a line that asks for something
@@ -50,4 +54,21 @@ module _ {B : Type 0} (meaning : B → Params → BodyMeaning) (width : ℕ) (ol
     entry = [];
     is = unasked_entry line reply un;
     spelled = λ _. ap (λ t. entry_text t traces (reply_text reply)) (sym same);
+  }
+
+  -- one that is too long
+  pub too_long_noted : (recorded : Bool) (line text : List ℕ) (reply : Reply) (traces : List Recorded) → text ≡ [] → HasEntry meaning width old (TooLong line) reply recorded text traces new
+  too_long_noted recorded line text reply traces same = record {
+    entry = [];
+    is = refl;
+    spelled = λ _. ap (λ t. entry_text t traces (reply_text reply)) (sym same);
+  }
+
+  -- one that asks to load
+  pub load_noted : (recorded : Bool) (line lines text : List ℕ) (reply : Reply) (traces : List Recorded) → traces ≡ [] → (recorded ≡ true → text ≡ load_entry line lines reply) →
+      HasEntry meaning width old (Loads line lines) reply recorded text traces new
+  load_noted recorded line lines text reply traces none same = record {
+    entry = entry_text (load_entry line lines reply) [] (reply_text reply);
+    is = refl;
+    spelled = λ e. ap₂ (λ t (rs : List Recorded). entry_text t rs (reply_text reply)) (sym (same e)) (sym none);
   }

@@ -1,12 +1,17 @@
 -- Records that are taken again, entry by entry.
-use Rattle.std.proofs.Common.{◌≡◌, ℕ, true, List, [], ◌∷◌, ◌++◌, Option, refl, sym, ap, ap₂, ◌∙◌, subst}
+use Rattle.std.proofs.Common.{◌≡◌, ◌<◌, ℕ, ◌+◌, Bool, List, [], ◌∷◌, ◌++◌, length, take, get_or, Option, arith, length-append, refl, sym, ap, ◌∙◌, subst}
 use Rattle.std.specs.Io.KnownBytes.{Appends}
 use Rattle.std.proofs.KnownBytes.{Appends-nil, Appends-trans}
 use Rattle.std.proofs.lemmas.Grind.{flat_map-append}
 use Rattle.std.proofs.lemmas.List.{append_assoc, append-nil}
 use Rattle.model.specs.access.Access.{Params}
 use Rattle.model.specs.shown.Outcome.{BodyMeaning}
-use Rattle.model.specs.steps.Schedule.{Recorded}
+use Rattle.model.specs.runs.Replays.{IsReplayed}
+use Rattle.model.specs.sessions.Sessions.{AreReplayedRuns}
+use Rattle.model.specs.state.State.{State}
+use Rattle.model.specs.steps.Schedule.{Recorded, Schedule, recording}
+use Rattle.model.proofs.lists.Turns.{seen_next}
+use Rattle.engine.specs.Meanings.{AreFit, Suits}
 use Rattle.requests.specs.Asked.{asked_of}
 use Rattle.requests.specs.declared.load.Load.{Load}
 use Rattle.trace_checker.specs.Grammar.{trace_text}
@@ -31,6 +36,36 @@ some_entry (b ∷ line) rest traces told = refl
 pub line_entry : (line : List ℕ) (traces : List Recorded) (told : List ℕ) → entries.entry_text (ended line) traces told ≡ ended line ++ (trace_text traces ++ told)
 line_entry [] traces told = refl
 line_entry (b ∷ line) traces told = refl
+
+-- ---- runs
+
+rerun_next : (s : Schedule) (bodies : List BodyMeaning) (start middle left : State) (runs : List Recorded) (r : Recorded) → AreReplayedRuns s bodies start runs middle → IsReplayed (recording s r.sets) bodies middle r.steps left →
+    AreReplayedRuns s bodies start (runs ++ r ∷ []) left
+rerun_next s bodies start middle left [] r ran next = (left, subst (λ w. IsReplayed (recording s r.sets) bodies w r.steps left) (sym ran) next, refl)
+rerun_next s bodies start middle left (x ∷ runs) r ran next = (ran.0, ran.1, rerun_next s bodies ran.0 middle left runs r ran.2 next)
+
+-- one run more is taken again, from the state that those before it leave
+pub rerun_more : (s : Schedule) (bodies others : List BodyMeaning) (start middle left : State) (runs : List Recorded) (i : ℕ) (r : Recorded) → i < length runs → r ≡ get_or runs i r → others ≡ bodies → AreReplayedRuns s bodies start (take i runs) middle →
+    IsReplayed (recording s r.sets) others middle r.steps left → AreReplayedRuns s bodies start (take (i + 1) runs) left
+rerun_more s bodies others start middle left runs i r known at same ran next = subst (λ rs. AreReplayedRuns s bodies start rs left) (sym (seen_next runs i r known at))
+    (rerun_next s bodies start middle left (take i runs) r ran (subst (λ bs. IsReplayed (recording s r.sets) bs middle r.steps left) same next))
+
+-- bodies that fit suit a state whose memories are those of the schedule
+pub suit : {B : Type 0} (fits : B → Params → Bool) (s : Schedule) (others bodies : List (Option B)) (state : State) → Suits fits s others state → AreFit fits s bodies → Suits fits s bodies state
+suit fits s others bodies state suits are = record { body_count = are.body_count; memories = suits.memories; fit = are.fit }
+
+-- ---- entries
+
+-- an entry is no empty text
+some_act : (act : Act) (told : List ℕ) → 0 < length (entry_text (record { act = act; told = told }))
+some_act (Does [] asked traces) told = omega arith
+some_act (Does (b ∷ line) asked traces) told = omega arith
+some_act (Loads [] load text) told = omega arith
+some_act (Loads (b ∷ line) load text) told = omega arith
+
+-- so what stands behind one is shorter
+pub shorter : (entry : Entry) (text behind : List ℕ) → text ≡ entry_text entry ++ behind → length behind < length text
+shorter entry text behind same = let some = some_act entry.act entry.told in omega (arith, ap length same, length-append (entry_text entry) behind, some)
 
 module _ {B : Type 0} (meaning : B → Params → BodyMeaning) where
   -- what was read was done again

@@ -2,7 +2,7 @@
 -- core stands for goes on from list to list.
 use Rattle.std.proofs.Common.{ℕ, suc, ◌-◌, ◌<◌, ◌≤◌, ◌≡◌, inl, inr, List, [], ◌∷◌, ◌++◌, length, get_or, take, Option, Some, None, MatchOption, refl, sym, ap, ◌∙◌, subst, arith}
 use Rattle.std.proofs.Math.Seq.{take-suc}
-use Rattle.std.proofs.lemmas.List.{get_or-take}
+use Rattle.std.proofs.lemmas.List.{get_or-take, length-take}
 use Rattle.model.specs.declared.steps.Step.{Step}
 use Rattle.model.specs.declared.steps.Step.TheVariants.{Cond, Start, Skip, Finish, Sync}
 use Rattle.model.specs.declared.steps.StepFault.{StepFault}
@@ -13,7 +13,7 @@ use Rattle.model.specs.steps.Schedule.{Schedule, recording, params_of, access_of
 use Rattle.model.specs.steps.Lawful.{syncs_in, sets_at, HasFreeMember, MeetsRunning, IsLawful}
 use Rattle.model.specs.steps.Faults.{HasFault, IsFirst, IsFirstFault, faults_of}
 use Rattle.model.proofs.order.Extending.{free-recording, may-recording}
-use Rattle.executor_core.specs.Stands.{Stand, Stands, AreListed, IsPlainStep}
+use Rattle.executor_core.specs.Stands.{AreMeetings, Stand, Stands, AreListed, IsPlainStep}
 use Rattle.trace_checker.specs.Verdicts.{sets_so_far}
 
 -- ---- a fault of a step, by other records
@@ -176,3 +176,16 @@ stands_same core lists h k place e within same stands =
     let taken : get_or (take (suc (syncs_in h)) lists) (syncs_in h) [] ≡ get_or lists (syncs_in h) [] = get_or-take (suc (syncs_in h)) lists (syncs_in h) [] (omega arith) in
     let last : get_or (take (suc (syncs_in h)) lists) (syncs_in h) [] ≡ get_or lists place [] = taken ∙ (ap (λ n. get_or lists n []) (sym before) ∙ sym same) in
     stands_listed core lists h k place e within (subst (λ l. Stands core (Some (take (suc (syncs_in h)) lists ++ l ∷ [])) (Sync k ∷ h)) last stands)
+
+-- ---- what a core knows
+
+-- it knows who meets whom in the kind sets that were recorded last
+pub knows_last : (core : Stand) (sets : Option (List (List ℕ))) (h : List Step) (place : ℕ) → place ≡ syncs_in h → Stands core (sets_so_far sets h) h →
+    MatchOption sets (Unit {0}) (λ lists. (place < length lists) × AreMeetings core (get_or lists place []))
+knows_last core None h place e stands = tt
+knows_last core (Some lists) h place e stands =
+    let n = syncs_in h in
+    let few : length (take (suc n) lists) ≡ suc n = stands.listed in
+    let taken : get_or (take (suc n) lists) n [] ≡ get_or lists place [] = get_or-take (suc n) lists n [] (omega arith) ∙ ap (λ k. get_or lists k []) (sym e) in
+    let known : AreMeetings core (get_or (take (suc n) lists) n []) = record { meets = stands.meets; clashes = stands.clashes } in
+    (omega (arith, e, few, length-take (suc n) lists), subst (AreMeetings core) taken known)

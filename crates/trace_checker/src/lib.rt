@@ -2,6 +2,7 @@
 #![tactic(auto)]
 
 pub mod check;
+pub mod checking;
 pub mod line;
 mod numeral;
 pub mod read;
@@ -10,6 +11,7 @@ mod sets;
 pub mod write;
 
 pub use check::Verdict;
+pub use checking::Checker;
 pub use line::Line;
 pub use read::TextFault;
 pub use replay::ReplayFault;

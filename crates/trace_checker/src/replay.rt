@@ -23,7 +23,8 @@ ghost use Rattle.model.specs.runs.Replays.{IsListOf, IsStepTaken};
 ghost use Rattle.trace_checker.specs.Standing.{StandsBefore, StandsBetween};
 ghost use Rattle.trace_checker.specs.ReplayFaults.{AreWrongHere, HasRun, IsKnown, IsReplay, IsReplayFault, IsStepFault, list_at};
 
-use crate::check::{Verdict, check, syncs_of};
+use crate::check::Verdict;
+use crate::checking::{Checker, syncs_of};
 use body::{Body, BodyFault, State, View};
 use engine::fitting::prove_fitting_keep;
 use engine::{Deferred, RunFault, RunState, Stop};
@@ -97,10 +98,39 @@ pub fn replay<B: Body>(
         ≡ meanings B.meaning built.now (map Some bodies.old) }
     ensures suits { IfOk result (λ final. Suits B.fits built.now (map Some bodies.new) final) }
 {
+    let mut checker = Checker::new(built);
+    replay_by(alloc, built, &mut checker, bodies, state, trace)
+}
+
+/// Takes a recorded run again, as `replay` does, with a checker of the schedule, which serves for runs after runs.
+pub fn replay_by<B: Body>(
+    alloc: Global,
+    built: &Built,
+    checker: &mut Checker,
+    bodies: &mut [B],
+    state: State,
+    trace: &Trace,
+) -> Result<State, ReplayFault>
+    requires same { checker.old ≡ built.now }
+    requires suits { Suits B.fits built.now (map Some bodies.old) state }
+    ensures replayed { IsReplay built.now (meanings B.meaning built.now (map Some bodies.old)) state
+        trace.now result }
+    ensures only { (other : Result Now ReplayFault)
+        → IsReplay built.now (meanings B.meaning built.now (map Some bodies.old)) state trace.now
+        other
+        → (other ≡ Err (ReplayFault.Run RunFault.Memory))
+        ⊎ ((result ≡ Err (ReplayFault.Run RunFault.Memory)) ⊎ (result ≡ other)) }
+    ensures agreement { IfOk result (λ final. AgreesWithAll widths built.now
+        (meanings B.meaning built.now (map Some bodies.old)) state 1 final) }
+    ensures meanings { meanings B.meaning built.now (map Some bodies.new)
+        ≡ meanings B.meaning built.now (map Some bodies.old) }
+    ensures schedule { checker.new ≡ checker.old }
+    ensures suits { IfOk result (λ final. Suits B.fits built.now (map Some bodies.new) final) }
+{
     built.prove_law();
     state.prove_shape();
     prove_fitting_keep(built, bodies);
-    match check(alloc, built, trace)? {
+    match checker.check(alloc, built, trace)? {
         Verdict::Complete => {}
         Verdict::Unfinished => return Err(ReplayFault::Unfinished),
         Verdict::Bad(step, fault) => return Err(ReplayFault::Bad(step, fault)),

@@ -13,8 +13,8 @@ use Rattle.engine.proofs.Stops.{either_way, lost_or_kept, one_stop, stops_up}
 use Rattle.model.proofs.lists.Results.{handed_on}
 use Rattle.engine.proofs.coordinator.run_times.Goals as goal
 
-pub one_run-requires : goal.one_run-requires
-one_run-requires g c = λ lifetimes.
+pub run_turns-requires : goal.run_turns-requires
+run_turns-requires g c = λ lifetimes.
     let inv = c.loop-run.invariant in
     (c.type_bounds.send-B, (c.type_bounds.send-M-Signals, (c.type_bounds.send-M-Gate, (c.type_bounds.sync-M-Gate, ((refl, tt), (inv.rest, (inv.empty, inv.following)))))))
 
@@ -31,7 +31,7 @@ loop-run-preserved g c =
     let now = meanings meaning s c.loop-run.jobs.bodies in
     let middle = c.loop-run.run.state.state in
     let traces = c.loop-run.recording.traces.items in
-    let later = c.one_run.new in
+    let later = c.run_turns.new in
     let ok = c.in-Ok.ensures in
     let kept = subst (λ (xs : List (JobOut g.row.B.Denot)). AreKept meaning fits there s now later.jobs.bodies xs) ok.empty (ok.kept (λ e. absurd (let clash = e in cc))) in
     let meant = kept_last meaning fits there s now later.jobs.bodies kept (meanings_count meaning fits there s c.loop-run.jobs.bodies inv.rest.suits.body_count) ∙ inv.meant in
@@ -66,7 +66,7 @@ returns-in_err-bring_home-in-Err-clause-stopped g c =
     let middle = c.loop-run.run.state.state in
     let told = c.in_err-bring_home-in-Err.field-0.0 in
     let lost = c.in_err-bring_home-in-Err.ensures.lost in
-    let later = c.one_run.new.jobs in
+    let later = c.run_turns.new.jobs in
     handed_on (StopsBy there (IsWideStopped width s bodies c.args.times start)) c.from_residual-in_err-bring_home-in-Err.result told c.from_residual-in_err-bring_home-in-Err.ensures.1
     (subst (StopsBy there (IsWideStopped width s bodies c.args.times start)) (sym lost.0)
     (either_way there (WideStops width s now middle) (AreKept meaning fits there s now later.bodies later.pool) (IsTrue (g.M.Mode.stands c.args.mode.now)) c.in-Err.stop c.in-Err.ensures.stopped

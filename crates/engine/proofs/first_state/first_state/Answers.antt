@@ -5,8 +5,8 @@ use Rattle.engine.specs.FirstState.{first_systems}
 use Rattle.engine.proofs.Beginning.{first_in_time}
 use Rattle.engine.proofs.first_state.first_state.Goals as goal
 
-pub new-requires-2-clause-last_runs : goal.new-requires-2-clause-last_runs
-new-requires-2-clause-last_runs c =
+pub new-state-requires-clause-last_runs : goal.new-state-requires-clause-last_runs
+new-state-requires-clause-last_runs c =
     let s = c.args.built.now in
     let clock = c.args.world.state.clock in
     subst (λ (xs : List Memory). AreInTime clock xs c.in_ok-conditions.conditions.items) (sym c.in_ok-systems.ensures)

@@ -1,4 +1,4 @@
-use Rattle.std.proofs.Common.{◌≡◌, rules, List, [], ◌∙◌, ap, subst, sym, length, get_or}
+use Rattle.std.proofs.Common.{◌≡◌, rules, List, [], ◌∙◌, ap, refl, subst, sym, length, get_or}
 use Rattle.std.specs.Prelude.{All}
 use Rattle.model.specs.declared.entities.Entity.{Entity}
 use Rattle.model.specs.state.State.{Slot}
@@ -6,9 +6,10 @@ use Rattle.model.specs.shown.Outcome.{Command, spawned_by}
 use Rattle.command_queue.specs.Commands.{commands_of}
 use Rattle.entity_table.specs.Ids.{IsGranted, AreApart}
 use Rattle.body.specs.Steps.{StateValue}
-use Rattle.engine.specs.Deferred.{DeferredValue, grants_of}
+use Rattle.engine.specs.Deferred.{DeferredValue, IsNothingDeferred, grants_of}
 use Rattle.engine.proofs.Syncing.{without_systems, level_is, level_known, level_once, level_granted, level_apart}
 use Rattle.engine.proofs.Commanded.{nothing_there, quiet_synced}
+use Rattle.engine.proofs.Idle.{idle_gone, idle_synced}
 use Rattle.engine.proofs.Freeing.{Synced, emptied_items, sync_is, sync_in_hand}
 use Rattle.engine.proofs.deferred.Deferred.finish_level.Goals as goal
 
@@ -65,6 +66,31 @@ clear_places-requires-clause-grants c =
     let level = c.systems_of-systems.result.now in
     let found = c.systems_of-systems.ensures ∙ ap (λ lists. get_or lists c.args.point []) (c.deref.ensures.value ∙ ap (λ (l : DeferredValue). l.levels) c.self.view_is) in
     level_known c.args.built.now c.args.point deferred c.prove_law.ensures c.requires.home.suits c.requires.known level found (length c.deref_mut-2.result.now) (ap length c.deref_mut-2.ensures.value ∙ ap (λ (l : DeferredValue). length l.grants) c.self.view_is ∙ c.requires.home.suits.grant_count)
+
+-- where nothing is deferred only the clock moves
+pub returns-then-not-self-clause-synced : goal.returns-then-not-self-clause-synced
+returns-then-not-self-clause-synced c =
+    let s = c.args.built.now in
+    let deferred = c.args.self.now in
+    let level = get_or deferred.levels c.args.point [] in
+    let still = c.self.invariant c.if-not-self.true in
+    let none : IsNothingDeferred deferred = subst IsNothingDeferred c.self.view_is (record { no_commands = still.0; no_grants = still.1 }) in
+    sync_is s c.args.point level deferred deferred c.args.state.now c.next.new.self c.prove_law.ensures c.requires.home.suits
+    (level_is s c.args.point deferred c.prove_law.ensures c.requires.home.suits c.requires.known level refl)
+    (idle_synced deferred none level c.args.state.now c.next.new.self c.in_ok-tick.ensures.moved) (idle_gone deferred none level)
+
+pub returns-then-not-self-clause-home : goal.returns-then-not-self-clause-home
+returns-then-not-self-clause-home c =
+    let deferred = c.args.self.now in
+    let level = get_or deferred.levels c.args.point [] in
+    let still = c.self.invariant c.if-not-self.true in
+    let none : IsNothingDeferred deferred = subst IsNothingDeferred c.self.view_is (record { no_commands = still.0; no_grants = still.1 }) in
+    record {
+      home = search rules;
+      suits = c.requires.home.suits;
+      ids = sync_in_hand level deferred deferred c.args.state.now c.next.new.self c.requires.home.ids
+          (idle_synced deferred none level c.args.state.now c.next.new.self c.in_ok-tick.ensures.moved) (idle_gone deferred none level);
+    }
 
 pub returns-clause-synced : goal.returns-clause-synced
 returns-clause-synced c =

@@ -8,7 +8,7 @@ use Rattle.model.specs.runs.RunState.{counts_of_level, spawners_of_level}
 use Rattle.model.specs.state.Ids.{grant_each, has_ids_for_each, ids_of_each}
 use Rattle.body.specs.Steps.{StateValue, with_slots_in}
 use Rattle.engine.specs.Deferred.{DeferredValue, AreInHand, run_with, with_each_grant}
-use Rattle.engine.proofs.LevelGrants.{granted_is, has_ids_there, in_hand_granted, none_above, noted_items, spawners_here, spawners_known}
+use Rattle.engine.proofs.LevelGrants.{granted_is, has_ids_there, in_hand_granted, nobody_kept, none_above, noted_items, spawners_count, spawners_here, spawners_known}
 use Rattle.engine.proofs.Stops.{told_of}
 use Rattle.entity_table.specs.declared.fault.GrantFault.TheVariants.{IdsSpent}
 use Rattle.engine.proofs.deferred.Deferred.grant.Goals as goal
@@ -50,6 +50,22 @@ pub returns-then-syncs-level-clause-has : goal.returns-then-syncs-level-clause-h
 returns-then-syncs-level-clause-has c =
     let past = c.if-syncs-level.true in
     has_ids_for_level-none c.args.built.now c.args.level (run_with c.args.state.now.state c.args.self.now) (none_above c.args.built.now c.args.level c.prove_law.ensures (omega (arith, past, c.syncs.ensures)))
+
+pub grants_none-requires : goal.grants_none-requires
+grants_none-requires c =
+    let count = spawners_count c.args.built.now c.args.level c.prove_law.ensures c.args.self.now c.requires.suits in
+    let l = c.if-syncs-level.false in
+    omega (arith, l, c.syncs.ensures, count)
+
+pub returns-then-grants_none-clause-granted : goal.returns-then-grants_none-clause-granted
+returns-then-grants_none-clause-granted c =
+    sym (after_grant-none c.args.built.now c.args.level (run_with c.args.state.now.state c.args.self.now)
+    (nobody_kept c.args.built.now c.args.level c.prove_law.ensures c.args.self.now c.requires.suits (let l = c.if-syncs-level.false in omega (arith, l, c.syncs.ensures)) (sym c.if-grants_none.ensures)))
+
+pub returns-then-grants_none-clause-has : goal.returns-then-grants_none-clause-has
+returns-then-grants_none-clause-has c =
+    has_ids_for_level-none c.args.built.now c.args.level (run_with c.args.state.now.state c.args.self.now)
+    (nobody_kept c.args.built.now c.args.level c.prove_law.ensures c.args.self.now c.requires.suits (let l = c.if-syncs-level.false in omega (arith, l, c.syncs.ensures)) (sym c.if-grants_none.ensures))
 
 pub returns-in_err-grant-clause-spent : goal.returns-in_err-grant-clause-spent
 returns-in_err-grant-clause-spent c = λ told.

@@ -9,7 +9,7 @@ use Rattle.trace_checker.specs.Verdicts.{IsVerdict}
 use Rattle.trace_checker.specs.ReplayFaults.{IsReplay, IsReplayFault}
 use Rattle.trace_checker.proofs.ReplayFaults.{one_fault, one_replay}
 use Rattle.trace_checker.proofs.Agreeing.{replay_agrees}
-use Rattle.trace_checker.proofs.replay.replay.Goals as goal
+use Rattle.trace_checker.proofs.replay.replay_by.Goals as goal
 
 pub returns-in-Unfinished-clause-only : goal.returns-in-Unfinished-clause-only
 returns-in-Unfinished-clause-only g c = λ other h.
@@ -58,6 +58,6 @@ returns-clause-agreement g c =
     let s = c.args.built.now in
     let r = c.args.trace.now in
     let ms = meanings g.B.Body.meaning s (map Some c.args.bodies.now) in
-    replay_agrees g.B.Body.meaning s c.args.bodies.now c.args.state r c.into_state.result c.prove_law.ensures c.requires.memories c.prove_shape.ensures c.prove_fitting_keep.ensures
+    replay_agrees g.B.Body.meaning s c.args.bodies.now c.args.state r c.into_state.result c.prove_law.ensures c.requires.suits.memories c.prove_shape.ensures c.prove_fitting_keep.ensures
     (subst (λ (start : State). IsReplay s ms start r (Ok c.into_state.result)) c.into_open.ensures.state
     (subst (λ (w : State). IsReplay s ms c.into_open.result.state r (Ok w)) (sym c.into_state.ensures) c.in_ok-take_steps.ensures.replayed))

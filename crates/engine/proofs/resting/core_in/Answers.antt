@@ -2,9 +2,9 @@ use Rattle.std.proofs.Common.{ℕ, List, Option, refl, sym, ap, ◌∙◌, subst
 use Rattle.std.specs.Prelude.{IfSome}
 use Rattle.executor_core.specs.Stands.{Stand}
 use Rattle.engine.specs.Latest.{IsCoreFor}
-use Rattle.engine.specs.declared.recording.RestingCore.{RestingCore}
+use Rattle.engine.specs.declared.resting.RestingCore.{RestingCore}
 use Rattle.engine.proofs.Ended.{meetings_first}
-use Rattle.engine.proofs.recording.core_in.Goals as goal
+use Rattle.engine.proofs.resting.core_in.Goals as goal
 
 -- a new one
 pub returns-in_default : goal.returns-in_default
