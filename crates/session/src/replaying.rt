@@ -23,7 +23,8 @@ use schedule_builder::Built;
 use std::alloc::{AllocError, Global};
 use std::io::Write;
 use streams::writing::write_whole;
-use trace_checker::replay::replay;
+use trace_checker::Checker;
+use trace_checker::replay::replay_by;
 use worker_pool::Single;
 
 /// How far a record was taken again.
@@ -230,10 +231,11 @@ fn replay_runs<B: Body>(
     ensures meanings { meanings B.meaning built.now (map Some bodies.new)
         ≡ meanings B.meaning built.now (map Some bodies.old) }
 {
+    let mut checker = Checker::new(built);
     let mut number = 0;
     for trace in traces {
         number += 1;
-        state = match replay(alloc, built, bodies, state, trace) {
+        state = match replay_by(alloc, built, &mut checker, bodies, state, trace) {
             Ok(left) => left,
             Err(fault) => return Err(EntryFault::Run(number, fault)),
         };

@@ -11,6 +11,7 @@ loop-trace-preserved g c =
       replayed = rerun_more s (meanings g.B.Body.meaning s (map Some c.args.bodies.now)) (meanings g.B.Body.meaning s (map Some c.loop-trace.bodies)) c.args.state c.loop-trace.state _ c.args.traces.now c.loop-trace.trace-index c.trace-item.result
           c.loop-trace-test.true c.trace-item.is inv.meant inv.replayed c.in-Ok.ensures.replayed;
       suits = c.in-Ok.ensures.suits;
-      meant = c.replay.ensures.meanings ∙ inv.meant;
+      meant = c.replay_by.ensures.meanings ∙ inv.meant;
+      same = c.replay_by.ensures.schedule ∙ inv.same;
       count = omega arith;
     }

@@ -9,5 +9,6 @@ invariant-loop-trace g l = record {
   replayed : AreReplayedRuns l.built (meanings g.B.Body.meaning l.built (map Some l.fn.bodies)) l.fn.state (take l.trace-index l.traces) l.state;
   suits : Suits g.B.Body.fits l.built (map Some l.bodies) l.state;
   meant : meanings g.B.Body.meaning l.built (map Some l.bodies) ≡ meanings g.B.Body.meaning l.built (map Some l.fn.bodies);
+  same : l.checker ≡ l.built;
   count : l.number ≡ l.trace-index;
 }
