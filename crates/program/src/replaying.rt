@@ -25,8 +25,8 @@ use script::ScriptBody;
 use state_lines::world::text_of_world;
 use std::alloc::Global;
 use std::io::Read;
-use trace_checker::ReplayFault;
-use trace_checker::replay::replay;
+use trace_checker::replay::{replay, replay_by};
+use trace_checker::{Checker, ReplayFault};
 
 /// The world that the recorded runs of a trace leave. Each is taken again on one thread, from the state that the run before it leaves, the
 /// first from that of these entities and resources as loaded; the first that is refused ends it. The trace is read before the world is made.
@@ -80,10 +80,14 @@ fn replay_runs(
     ensures refused { IfErr result (IsRefusedAmong built.now
         (meanings_of_scripts built.now bodies.old) state traces.now) }
 {
+    let mut checker = Checker::new(built);
     let mut number = 0;
     for trace in traces {
         number += 1;
-        state = replay_run(alloc, built, bodies, state, trace, number)?;
+        state = match replay_by(alloc, built, &mut checker, bodies, state, trace) {
+            Ok(left) => left,
+            Err(fault) => return Err(fault_of_replay(fault, number)),
+        };
     }
     Ok(state)
 }
