@@ -37,7 +37,7 @@ module _ {B : Type 0} (meaning : B → Params → BodyMeaning) (scope : Bool) (w
     record {
       exchange = (record { load = load; asks = asks; lines = h.1; replied = h.2 }, h.3);
       entry = load_noted meaning width old new recorded line h.0 entry replied.reply replied.runs.items h.4 h.5;
-      text = no_runs replied.runs.items h.4;
+      traced = no_runs replied.runs.items h.4;
     },
     Consumes-trans before mid after (ended line) h.0 read h.6,
   )

@@ -106,5 +106,5 @@ module _ {B : Type 0} (meaning : B → Params → BodyMeaning) where
       spelled = so_far.spelled ∙ ap (λ t. head_line old.file ++ t) (ap (λ t. entries_text so_far.entries ++ t) first.spelled ∙ sym (append_assoc (entries_text so_far.entries) (entry_text first.entry) behind)
           ∙ ap (λ t. t ++ behind) (sym (flat_map-append entry_text so_far.entries (first.entry ∷ []) ∙ ap (λ t. entries_text so_far.entries ++ t) (append-nil (entry_text first.entry)))));
       told = subst (Appends before after) (sym (flat_map-append reply_text so_far.replies (first.reply ∷ []) ∙ ap (λ t. told_text so_far.replies ++ t) (append-nil (reply_text first.reply))))
-          (Appends-trans before middle after (told_text so_far.replies) (reply_text first.reply) so_far.told (subst (Appends middle after) first.told written));
+          (Appends-trans before middle after (told_text so_far.replies) (reply_text first.reply) so_far.told (subst (Appends middle after) first.replied written));
     }

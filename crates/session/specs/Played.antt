@@ -121,7 +121,7 @@ fault_of_read read.Failed = play.Read
 pub record HasTurned {B : Type 0} (meaning : B → Params → BodyMeaning) (scope : Bool) (width : ℕ) (old : Live B) (sent : Sent) (recorded : Bool) (text : List ℕ) (turn : Replied) (new : Live B) : Type 0 where
   pub exchange : IsExchange meaning scope width old sent turn.reply turn.is_last new
   pub entry : HasEntry meaning width old sent turn.reply recorded text turn.runs.items new
-  pub text : HaveText turn.runs.items
+  pub traced : HaveText turn.runs.items
 
 -- the next line was read and acted on; or there is none; or it can't be read
 abbrev pub IsTurn : {B : Type 0} → (B → Params → BodyMeaning) → Bool → ℕ → Bool → List ℕ → Live B → Live B → Option (List ℕ) → Option (List ℕ) → Result (Option Replied) PlayFault → Type 0

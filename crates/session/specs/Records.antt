@@ -93,7 +93,7 @@ pub record IsReadEntry (text : List ℕ) (read : Read) (behind : List ℕ) : Typ
   pub act : Act
   pub spelled : IsSpelled act
   pub is : IsReadAs read.deed act
-  pub text : text ≡ entry_text (record { act = act; told = read.told.now }) ++ behind
+  pub parted : text ≡ entry_text (record { act = act; told = read.told.now }) ++ behind
 
 -- ---- taken again
 
@@ -148,7 +148,7 @@ pub record HasTakenFirst {B : Type 0} (meaning : B → Params → BodyMeaning) (
   pub reply : Reply
   pub spelled : text ≡ entry_text entry ++ behind
   pub taken : IsTaken meaning bodies old entry reply new
-  pub told : told ≡ reply_text reply
+  pub replied : told ≡ reply_text reply
 
 -- entries were taken again, and their replies written, each whole and in order. What is left of the text is cut short, if anything is
 pub record IsTakenAgain {B : Type 0} (meaning : B → Params → BodyMeaning) (bodies : List BodyMeaning) (old new : Live B) (text rest : List ℕ) (before after : Option (List ℕ)) : Type 0 where
