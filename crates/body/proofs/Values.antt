@@ -6,6 +6,7 @@ use Rattle.std.proofs.lemmas.Bool.{eqb-true, eq-eqb, ltb-true, ltb-false, lt-ltb
 use Rattle.std.proofs.lemmas.List.{get_or_past, get_or-set_same, get_or-set_other}
 use Rattle.model.specs.Lists.{has, first_some, map_index, update_at}
 use Rattle.model.specs.access.Access.{Params}
+use Rattle.model.specs.shown.Input.{value_of}
 use Rattle.model.specs.shown.Outcome.{value_written}
 use Rattle.model.specs.shown.Overlay.{resource_after, resources_after}
 use Rattle.model.specs.state.State.{Resource, World, no_resource}
@@ -16,7 +17,7 @@ use Rattle.entity_table.proofs.Edits.{update_at-id}
 use Rattle.archetype_store.specs.Store.{with_resource}
 use Rattle.body.specs.Laid.{with_resources}
 use Rattle.body.specs.Seen.{value_shown, value_read, with_value}
-use Rattle.body.specs.Values.{value_at, written_at, values_over, AreWritable}
+use Rattle.body.specs.Values.{value_at, written_at, first_values, values_over, AreWritable}
 
 abbrev no_value : Option ℤ
 no_value = None
@@ -54,6 +55,22 @@ written-of params written able n = written-named (written_at written) params.res
     go : (o : Option ℤ) → written_at written n ≡ o → cond (has n params.res_mut) (written_at written n) None ≡ written_at written n
     go None e = ap (λ x. cond (has n params.res_mut) x None) e ∙ no-choice (has n params.res_mut) ∙ sym e
     go (Some v) e = ap (λ b. cond b (written_at written n) None) (able.each n v e)
+
+-- ---- as they open
+
+-- what is shown of the resources that are named, with nothing written
+pub values-opened : (params : Params) (values : List ℤ) (written : List (Option ℤ)) (resources : List Resource) (registers : List ℤ) →
+    map (value_at values) params.res ≡ map (value_of resources) params.res → map (value_at values) params.res_mut ≡ map (value_of resources) params.res_mut → ((n : ℕ) → written_at written n ≡ None) →
+    values_over params values written registers registers ≡ first_values params resources registers
+values-opened params values written resources registers read mutable none = λ i. record {
+  res = params.res;
+  res_mut = params.res_mut;
+  res_shown = read i;
+  res_mut_shown = mutable i;
+  written = map (λ n. none n i) params.res_mut;
+  registers_shown = registers;
+  registers = registers;
+}
 
 -- ---- a read
 
@@ -122,6 +139,13 @@ laid-all tick k written resources words l same = ap (λ w. map_index (λ n. reso
     go : (n : ℕ) (b : Bool) → nat_lt n k ≡ b → cond (nat_lt n k) (written_at written n) None ≡ written_at written n
     go n true e = ap (λ b. cond b (written_at written n) None) e
     go n false e = ap (λ b. cond b (written_at written n) None) e ∙ sym (get_or_past written n None (let m = ltb-false n k e in omega arith))
+
+-- nor is anything laid where nothing is written
+pub laid-nothing : (tick : ℕ) (params : Params) (written : List (Option ℤ)) (resources : List Resource) → AreWritable params written → ((n : ℕ) → written_at written n ≡ None) →
+    resources ≡ resources_after tick (value_written params.res_mut (map (written_at written) params.res_mut)) resources
+laid-nothing tick params written resources able none =
+    laid-none tick [] resources
+    ∙ laid-all tick 0 [] resources (value_written params.res_mut (map (written_at written) params.res_mut)) (omega arith) (λ n. written-of params written able n ∙ none n)
 
 -- a change at one index
 update-index : (f : Resource → Resource) (g h : ℕ → Resource → Resource) (k : ℕ) → ((x : Resource) → h k x ≡ f (g k x)) → ((n : ℕ) (x : Resource) → (n ≡ k → ⊥) → h n x ≡ g n x) →

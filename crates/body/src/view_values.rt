@@ -1,6 +1,6 @@
 // The resources and the registers of a view.
 
-ghost use Rattle.std.specs.Prelude.{◌≡◌, ◌<◌, ◌≤◌, ◌||◌, ℕ, set, get_or, pos, IsTrue};
+ghost use Rattle.std.specs.Prelude.{◌≡◌, ◌<◌, ◌≤◌, ◌||◌, ℕ, None, false, length, map, set, get_or, pos, IsTrue};
 ghost use Rattle.kinds.specs.Res.{res_number};
 ghost use Rattle.model.specs.Lists.{has};
 ghost use Rattle.model.specs.shown.Input.{value_of};
@@ -9,7 +9,7 @@ ghost use Rattle.model.specs.shown.Overlay.{resources_after};
 ghost use Rattle.model.specs.state.State.{register_count};
 ghost use Rattle.body.specs.Laid.{with_resources};
 ghost use Rattle.body.specs.Seen.{value_read, with_value};
-ghost use Rattle.body.specs.Values.{blank_values, first_values, value_at};
+ghost use Rattle.body.specs.Values.{blank_values, first_values, value_at, written_at};
 
 use crate::memory::Memory;
 use access_set::Params;
@@ -25,20 +25,24 @@ use std::snapshot::Snapshot;
 pub(crate) struct ViewValues {
     params: Snapshot<Params>,
     resources: [i64; Res::COUNT],
+    // Whether something may be written.
+    has_written: bool,
     written: [Option<i64>; Res::COUNT],
     registers_shown: Snapshot<[i64; 8]>,
     registers: [i64; 8],
 }
 
 impl Model for ViewValues {
-    ghost use Rattle.body.specs.Values.{ValuesSeen, values_over, AreWritable};
+    ghost use Rattle.std.specs.Prelude.{◌≡◌, ℕ, None, false};
+    ghost use Rattle.body.specs.Values.{ValuesSeen, values_over, written_at, AreWritable};
 
     ghost Value = { ValuesSeen };
 
     ghost view = { λ v. values_over v.params.value v.resources v.written v.registers_shown.value
         v.registers };
 
-    ghost invariant = { λ v. AreWritable v.params.value v.written };
+    ghost invariant = { λ v. AreWritable v.params.value v.written
+        × (v.has_written ≡ false → (number : ℕ) → written_at v.written number ≡ None) };
 }
 
 impl ViewValues {
@@ -50,6 +54,7 @@ impl ViewValues {
         ViewValues {
             params: Snapshot::of(params),
             resources: [0; Res::COUNT],
+            has_written: false,
             written: [None; Res::COUNT],
             registers_shown: Snapshot::of(&registers),
             registers,
@@ -64,8 +69,8 @@ impl ViewValues {
         self.params = Snapshot::of(params);
         self.registers = memory.registers();
         self.registers_shown = Snapshot::of(&self.registers);
-        self.written = [None; Res::COUNT];
-        fill_values(&mut self.resources, world);
+        forget(&mut self.written, &mut self.has_written);
+        fill_named(&mut self.resources, params, world);
     }
 
     // The value of a resource that is named: what was written, else what is shown.
@@ -92,6 +97,7 @@ impl ViewValues {
                   self.old.written;
             } }
     {
+        self.has_written = true;
         self.written[resource.number() as usize] = Some(value);
     }
 
@@ -126,12 +132,41 @@ impl ViewValues {
             (value_written self.now.res_mut self.now.written) world.old.state.resources) }
         ensures layout { world.new.layout ≡ world.old.layout }
     {
+        if !self.has_written {
+            return;
+        }
         for (number, written) in self.written.iter().enumerate() {
             if let Some(value) = *written {
                 world.set_res(Res::ALL[number], value, tick);
             }
         }
     }
+}
+
+// Forgets what was written.
+fn forget(written: &mut [Option<i64>; Res::COUNT], has_written: &mut bool)
+    requires { has_written.old ≡ false → (number : ℕ) → written_at written.old number ≡ None }
+    ensures none { (number : ℕ) → written_at written.new number ≡ None }
+    ensures count { length written.new ≡ length written.old }
+    ensures nothing { has_written.new ≡ false }
+{
+    if *has_written {
+        *written = [None; Res::COUNT];
+        *has_written = false;
+    }
+}
+
+// Puts the values of the resources of a world in their places, where these parameters name one.
+fn fill_named(values: &mut [i64; Res::COUNT], params: &Params, world: &World)
+    ensures res { map (value_at values.new) params.now.res
+        ≡ map (value_of world.now.state.resources) params.now.res }
+    ensures res_mut { map (value_at values.new) params.now.res_mut
+        ≡ map (value_of world.now.state.resources) params.now.res_mut }
+{
+    if params.res().is_empty() && params.res_mut().is_empty() {
+        return;
+    }
+    fill_values(values, world);
 }
 
 // Puts the value of each resource of a world in its place.

@@ -8,7 +8,7 @@ use Rattle.kinds.specs.Res.{res_number, every_res}
 use Rattle.archetype_store.specs.Store.{StoreValue}
 use Rattle.body.specs.Laid.{with_resources}
 use Rattle.body.specs.Values.{ValuesSeen, values_over}
-use Rattle.body.proofs.Values.{resources_to, written-of, laid-none, laid-all, lay-more, lay-same, res_number-at}
+use Rattle.body.proofs.Values.{resources_to, written-of, laid-none, laid-nothing, laid-all, lay-more, lay-same, res_number-at}
 use Rattle.body.proofs.view_values.ViewValues.lay.Goals as goal
 use Rattle.body.proofs.view_values.ViewValues.lay.Goals.{in-Some, in_default}
 
@@ -37,6 +37,15 @@ loop-number-preserved c =
       }
     ]
 
+-- where nothing is written nothing is laid
+pub returns-then-not-self-clause-state : goal.returns-then-not-self-clause-state
+returns-then-not-self-clause-state c =
+    let w = c.args.world.now.state in
+    let inside = c.self.inside in
+    let values : ValuesSeen = values_over inside.params.value inside.resources inside.written inside.registers_shown.value inside.registers in
+    subst (λ (v : ValuesSeen). w ≡ with_resources w (resources_after c.args.tick (value_written v.res_mut v.written) w.resources)) c.self.view_is
+    (ap (with_resources w) (laid-nothing c.args.tick inside.params.value inside.written w.resources c.self.invariant.0 (c.self.invariant.1 c.if-not-self.true)))
+
 pub returns-clause-state : goal.returns-clause-state
 returns-clause-state c =
     let w = c.args.world.now.state in
@@ -44,8 +53,8 @@ returns-clause-state c =
     let tick = c.args.tick in
     let k = c.loop-number.number in
     let past = c.loop-number-test.false in
-    let count = c.self.invariant.count in
+    let count = c.self.invariant.0.count in
     let values : ValuesSeen = values_over inside.params.value inside.resources inside.written inside.registers_shown.value inside.registers in
     c.loop-number.invariant.laid
     ∙ subst (λ (v : ValuesSeen). with_resources w (resources_to tick inside.written k w.resources) ≡ with_resources w (resources_after tick (value_written v.res_mut v.written) w.resources)) c.self.view_is
-    (ap (with_resources w) (laid-all tick k inside.written w.resources (value_written values.res_mut values.written) (omega arith) (written-of inside.params.value inside.written c.self.invariant)))
+    (ap (with_resources w) (laid-all tick k inside.written w.resources (value_written values.res_mut values.written) (omega arith) (written-of inside.params.value inside.written c.self.invariant.0)))

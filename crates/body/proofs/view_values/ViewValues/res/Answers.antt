@@ -11,11 +11,11 @@ returns-in-Some c =
     let n = res_number c.args.resource in
     let inside = c.self.inside in
     let named = subst (λ (v : ValuesSeen). (has n v.res || has n v.res_mut) ≡ true) (sym c.self.view_is) c.requires in
-    rw (← c.self.view_is) (read-written inside.params.value inside.resources inside.written n c.number-number.result _ c.in-Some.value c.self.invariant named c.number-number.ensures (search to_z-of_z) c.in-Some.is)
+    rw (← c.self.view_is) (read-written inside.params.value inside.resources inside.written n c.number-number.result _ c.in-Some.value c.self.invariant.0 named c.number-number.ensures (search to_z-of_z) c.in-Some.is)
 
 pub returns-in-None : goal.returns-in-None
 returns-in-None c =
     let n = res_number c.args.resource in
     let inside = c.self.inside in
     let named = subst (λ (v : ValuesSeen). (has n v.res || has n v.res_mut) ≡ true) (sym c.self.view_is) c.requires in
-    rw (← c.self.view_is) (read-shown inside.params.value inside.resources inside.written n c.number-number.result _ c.self.invariant named c.number-number.ensures (search to_z-of_z) c.in-None.is)
+    rw (← c.self.view_is) (read-shown inside.params.value inside.resources inside.written n c.number-number.result _ c.self.invariant.0 named c.number-number.ensures (search to_z-of_z) c.in-None.is)

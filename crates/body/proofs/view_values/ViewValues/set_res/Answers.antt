@@ -7,7 +7,7 @@ use Rattle.body.proofs.view_values.ViewValues.set_res.Goals as goal
 pub returns : goal.returns
 returns c =
     let inside = c.self.inside in
-    let l = c.self.invariant.count in
+    let l = c.self.invariant.0.count in
     let below = res_number-below c.args.resource in
     let same = c.number.ensures in
     rw (← c.self.view_is, ← c.number.ensures)
