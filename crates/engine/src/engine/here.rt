@@ -18,8 +18,8 @@ use std::alloc::Global;
 use std::mem;
 
 impl<B: Body> Engine<B> {
-    /// Runs the schedule `times` times on the thread of the caller, as `run` does in a mode with room for one system and no threads. It reaches no
-    /// code of threads, so a library for hosts that may start none can call it.
+    /// Runs the schedule `times` times on the thread of the caller, as `run` does in a mode with room for one system and no threads. It is written
+    /// without code of threads, for libraries whose hosts may start none.
     pub fn run_here(&mut self, alloc: Global, times: u32) -> Result<Vec<Trace>, RunFault>
         ensures ran { IfOk result (λ traces. RunsAs 1 self.old.schedule
             (meanings B.meaning self.old.schedule self.old.bodies) times self.old.state
