@@ -161,6 +161,10 @@ pub no_ids_to_open : (s : Schedule) (start : State) → has_ids_for_level s 0 (b
 unfolding has_ids_to_open
 no_ids_to_open s start none = none
 
+pub ids_to_open : (s : Schedule) (start : State) → has_ids_to_open s start ≡ has_ids_for_level s 0 (between (opening start))
+unfolding has_ids_to_open
+ids_to_open s start = refl
+
 -- the systems of each level are systems of the schedule
 pub levels_known : (s : Schedule) → IsBuilt s → (levels : List (List ℕ)) → length levels ≡ s.syncs → ((k : ℕ) → k < s.syncs → get_or levels k [] ≡ systems_of_level s k) → All (All (λ n. n < length s.systems)) levels
 levels_known s built levels count each = λ k d within.

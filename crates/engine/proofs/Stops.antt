@@ -1,5 +1,5 @@
 -- What a stop means stays what it means further up.
-use Rattle.std.proofs.Common.{ℕ, ◌≡◌, Bool, true, false, List, Result, Ok, Err, IfErr, IfOk, IsErrAnd, refl, sym, ap, ap₂, ◌∙◌, subst}
+use Rattle.std.proofs.Common.{ℕ, ◌≡◌, ◌↔◌, Option, Some, Bool, true, false, List, Result, Ok, Err, IfErr, IfOk, IsErrAnd, refl, sym, ap, ap₂, ◌∙◌, subst}
 use Rattle.std.proofs.lemmas.Bool.{false≢true}
 use Rattle.model.specs.state.State.{State}
 use Rattle.model.specs.shown.Outcome.{BodyMeaning}
@@ -11,7 +11,12 @@ use Rattle.model.specs.runs.Causes.{Cause as cause}
 use Rattle.model.specs.runs.WideRuns.{IsWideStopped}
 use Rattle.entity_table.specs.declared.fault.GrantFault.{GrantFault}
 use Rattle.entity_table.specs.declared.fault.GrantFault.TheVariants as granting
-use Rattle.engine.specs.Stops.{AreStopped, CannotOpen, CannotSync, StopsAs, StopsBy, fault_of, stop_of_grant}
+use Rattle.body.specs.Seen.{Seen}
+use Rattle.body.specs.declared.system_body.BodyFault.{BodyFault}
+use Rattle.body.specs.declared.system_body.BodyFault.TheVariants as body
+use Rattle.event_buffers.specs.declared.queue.SendFault.{SendFault}
+use Rattle.event_buffers.specs.declared.queue.SendFault.TheVariants as send
+use Rattle.engine.specs.Stops.{AreStopped, CannotOpen, CannotSync, IsNotLaid, LacksTick, StopsAs, StopsBy, TellsOf, fault_of, stop_of_body, stop_of_cause, stop_of_grant, stop_of_send}
 use Rattle.engine.specs.declared.faults.RunFault.{RunFault}
 use Rattle.engine.specs.declared.faults.RunFault.TheVariants as fault
 use Rattle.engine.specs.declared.stop.Stop.{Stop}
@@ -21,6 +26,15 @@ use Rattle.engine.specs.declared.stop.Stop.TheVariants as stop
 pub told_of : {T F : Type 0} (r : Result T F) (fault other : F) → IsErrAnd r (λ told. told ≡ fault) → r ≡ Err other → fault ≡ other
 told_of (Ok x) fault other told is = absurd told
 told_of {T} {F} (Err e) fault other told is = let whole : ◌≡◌ {A = Result T F} (Err e) (Err other) = is in let same : e ≡ other = cc in sym told ∙ same
+
+-- and so an error that is handed on
+pub told_alike : {T F : Type 0} (r : Result T F) (fault other : F) → IsErrAnd r (λ told. told ≡ fault) → ◌≡◌ {A = Result T F} (Err fault) (Err other) → r ≡ Err other
+told_alike (Ok x) fault other told is = absurd told
+told_alike {T} {F} (Err e) fault other told is = ap Err told ∙ is
+
+-- what is done is no such error, where the test is passed
+pub never_spent : {T F : Type 0} {x : T} {e : F} (b : Bool) → b ≡ true → (◌≡◌ {A = Result T F} (Ok x) (Err e)) ↔ (b ≡ false)
+never_spent b is = (λ told. absurd (cc), λ none. absurd (false≢true (sym none ∙ is)))
 
 -- of an error nothing is asked that is asked of what is done
 pub none_ok : {T E : Type 0} (P : T → Type 0) (Q : E → Type 0) (r : Result T E) → IsErrAnd r Q → IfOk r P
@@ -107,3 +121,76 @@ pub grant_stops : {T : Type 0} (Meets : Cause → Type 0) (error : GrantFault) (
 grant_stops Meets error (Ok x) e spent = tt
 grant_stops Meets granting.IdsSpent (Err told) e spent = subst (StopsBy false Meets) (sym e) (spent refl)
 grant_stops Meets granting.Memory (Err told) e spent = subst (StopsBy false Meets) (sym e) tt
+
+-- ---- what is told where a cause is met
+
+one_cause : {a b : Cause} → Some a ≡ Some b → a ≡ b
+one_cause e = cc
+
+-- the one cause that may be met is told
+tells : {T : Type 0} (Meets : Cause → Type 0) (r : Result T Stop) (one : Cause) → ((met : Cause) → Meets met → one ≡ met) → IsErrAnd r (λ told. told ≡ stop_of_cause one) → TellsOf Meets r
+tells Meets (Ok x) one only is = absurd is
+tells Meets (Err told) one only is = λ met m. ap Err (is ∙ ap stop_of_cause (only met m))
+
+-- where a test is passed nothing is met, and else this cause alone
+pub unmet : (b : Bool) (cause met : Cause) → b ≡ true → unless b cause ≡ Some met → ⊥
+unmet true cause met e m = cc
+unmet false cause met e m = absurd (false≢true e)
+
+one_met : (b : Bool) (cause met : Cause) → b ≡ false → unless b cause ≡ Some met → cause ≡ met
+one_met true cause met e m = absurd (false≢true (sym e))
+one_met false cause met e m = one_cause m
+
+first_met : (b : Bool) (cause met : Cause) (rest : Option Cause) → b ≡ false → first_some (unless b cause) rest ≡ Some met → cause ≡ met
+first_met true cause met rest e m = absurd (false≢true (sym e))
+first_met false cause met rest e m = one_cause m
+
+later_met : (b : Bool) (cause met : Cause) (rest : Option Cause) → b ≡ true → first_some (unless b cause) rest ≡ Some met → rest ≡ Some met
+later_met true cause met rest e m = m
+later_met false cause met rest e m = absurd (false≢true e)
+
+-- where no tick is left
+pub tells_no_tick : {T : Type 0} (w : State) (r : Result T Stop) → has_tick w ≡ false → IsErrAnd r (λ told. told ≡ stop.NoTick) → TellsOf (LacksTick w) r
+tells_no_tick w r e is = tells (LacksTick w) r cause.NoTick (λ met m. one_met (has_tick w) cause.NoTick met e m) is
+
+pub opens_no_tick : {T : Type 0} (s : Schedule) (w : State) (r : Result T Stop) → has_tick w ≡ false → IsErrAnd r (λ told. told ≡ stop.NoTick) → TellsOf (CannotOpen s w) r
+opens_no_tick s w r e is = tells (CannotOpen s w) r cause.NoTick (λ met m. first_met (has_tick w) cause.NoTick met (unless (has_ids_to_open s w) cause.NoIds) e m) is
+
+-- where one is left
+pub has_one : (b : Bool) → (false ≡ true) ↔ (b ≡ false) → b ≡ true
+has_one true spent = refl
+has_one false spent = spent.1 refl
+
+pub tick_met : {A : Type 0} (w : State) (met : Cause) → has_tick w ≡ true → LacksTick w met → A
+tick_met w met e m = absurd (unmet (has_tick w) cause.NoTick met e m)
+
+-- where ids are left too
+pub open_met : {A : Type 0} (s : Schedule) (w : State) (met : Cause) → has_tick w ≡ true → has_ids_to_open s w ≡ true → CannotOpen s w met → A
+open_met s w met e ids m = absurd (unmet (has_ids_to_open s w) cause.NoIds met ids (later_met (has_tick w) cause.NoTick met (unless (has_ids_to_open s w) cause.NoIds) e m))
+
+pub one_grant : {T : Type 0} {a b : GrantFault} → ◌≡◌ {A = Result T GrantFault} (Err a) (Err b) → a ≡ b
+one_grant {T} {a} {b} e = let whole : ◌≡◌ {A = Result T GrantFault} (Err a) (Err b) = e in cc
+
+-- where a grant is refused at an opening: for ids exactly where there are too few
+ungranted_met : {T : Type 0} (s : Schedule) (w : State) (error : GrantFault) (told : Stop) (ids : Bool) → has_ids_to_open s w ≡ ids → has_tick w ≡ true → told ≡ stop_of_grant error →
+    (has_ids_to_open s w ≡ false → error ≡ granting.IdsSpent) → (met : Cause) → CannotOpen s w met → ◌≡◌ {A = Result T Stop} (Err told) (Err (stop_of_cause met))
+ungranted_met s w error told true ids e is spent met m = open_met s w met e ids m
+ungranted_met s w error told false ids e is spent met m =
+    ap Err (is ∙ ap stop_of_grant (spent ids) ∙ ap stop_of_cause (one_met (has_ids_to_open s w) cause.NoIds met ids (later_met (has_tick w) cause.NoTick met (unless (has_ids_to_open s w) cause.NoIds) e m)))
+
+pub opens_ungranted : {T : Type 0} (s : Schedule) (w : State) (error : GrantFault) (r : Result T Stop) → has_tick w ≡ true → IsErrAnd r (λ told. told ≡ stop_of_grant error) →
+    (has_ids_to_open s w ≡ false → error ≡ granting.IdsSpent) → TellsOf (CannotOpen s w) r
+opens_ungranted s w error (Ok x) e is spent = absurd is
+opens_ungranted s w error (Err told) e is spent = ungranted_met s w error told (has_ids_to_open s w) refl e is spent
+
+-- a body that refuses
+pub tells_refusal : {T : Type 0} (error : BodyFault) (seen : Seen) (w : State) (r : Result T Stop) → IsErrAnd r (λ told. told ≡ stop_of_body error) → TellsOf (IsNotLaid (Err error) seen w) r
+tells_refusal error seen w (Ok x) is = absurd is
+tells_refusal body.Memory seen w (Err told) is = λ met m. absurd m
+tells_refusal (body.Refused n) seen w (Err told) is = λ met m. ap Err (is ∙ ap stop_of_cause (sym m))
+
+-- events that get no numbers
+pub tells_unsent : {T : Type 0} (b : Bool) (error : SendFault) (r : Result T Stop) → IsErrAnd r (λ told. told ≡ stop_of_send error) → (b ≡ false → error ≡ send.NumbersSpent) → (met : Cause) → unless b cause.NoEventNumber ≡ Some met → r ≡ Err (stop_of_cause met)
+tells_unsent b error (Ok x) is spent met m = absurd is
+tells_unsent true error (Err told) is spent met m = absurd (unmet true cause.NoEventNumber met refl m)
+tells_unsent false error (Err told) is spent met m = ap Err (is ∙ ap stop_of_send (spent refl) ∙ ap stop_of_cause (one_met false cause.NoEventNumber met refl m))

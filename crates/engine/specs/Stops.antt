@@ -36,6 +36,17 @@ abbrev pub stop_of_grant : GrantFault → Stop
 stop_of_grant granting.IdsSpent = stop.NoIds
 stop_of_grant granting.Memory = stop.Memory
 
+-- which stop tells of a cause
+abbrev pub stop_of_cause : Cause → Stop
+stop_of_cause cause.NoTick = stop.NoTick
+stop_of_cause cause.NoIds = stop.NoIds
+stop_of_cause cause.NoEventNumber = stop.NoEventNumber
+stop_of_cause (cause.Refused n) = stop.Refused n
+
+-- where a cause is met, it is told: no other, and no allocation that failed in its place
+abbrev pub TellsOf : {T : Type 0} → (Cause → Type 0) → Result T Stop → Type 0
+TellsOf Meets result = (met : Cause) → Meets met → result ≡ Err (stop_of_cause met)
+
 -- what a stop means, where there are workers or none, by what a cause means: an allocation may fail at any time
 abbrev pub StopsBy : Bool → (Cause → Type 0) → Stop → Type 0
 StopsBy there Meets stop.Memory = Unit {0}

@@ -12,7 +12,7 @@ ghost use Rattle.command_queue.specs.Commands.{commands_of};
 ghost use Rattle.body.specs.Steps.{with_slots_in};
 ghost use Rattle.engine.specs.Deferred.{AreInHand, IsDeferredFor, IsNothingDeferred, commands_at, emptied, grants_at, grants_of, no_spawners, nothing_deferred, run_with, with_commands, with_each_grant};
 ghost use Rattle.engine.specs.Shows.{NoneRunsIn};
-ghost use Rattle.engine.specs.Stops.{CannotSync, LacksTick, StopsBy};
+ghost use Rattle.engine.specs.Stops.{CannotSync, LacksTick, StopsBy, TellsOf};
 
 use crate::granting::{Spawners, spawners_of};
 use crate::stop::Stop;
@@ -186,7 +186,7 @@ impl Deferred {
             → ((n : ℕ) → level_of built.now n ≡ level → commands_at self.old n ≡ [])
             → AreInHand state.new.state.world.slots self.new) }
         ensures spent { IsErrOf result GrantFault.IdsSpent
-            → has_ids_for_level built.now level (run_with state.old.state self.old) ≡ false }
+            ↔ has_ids_for_level built.now level (run_with state.old.state self.old) ≡ false }
     {
         built.prove_law();
         if built.syncs() <= level {
@@ -245,6 +245,7 @@ impl Deferred {
             ≡ kind_sets_of state.old.state.world.slots) }
         ensures stopped { IfErr result (StopsBy false (CannotSync built.now point (run_with
             state.old.state self.old))) }
+        ensures told { TellsOf (LacksTick state.old.state) result }
     {
         built.prove_law();
         let commanded = self.finish_level(alloc, built, state, point)?;
@@ -272,6 +273,7 @@ impl Deferred {
             → kind_sets_of state.new.state.world.slots
             ≡ kind_sets_of state.old.state.world.slots) }
         ensures stopped { IfErr result (StopsBy false (LacksTick state.old.state)) }
+        ensures told { TellsOf (LacksTick state.old.state) result }
     {
         built.prove_law();
         let tick = state.next()?;

@@ -16,7 +16,7 @@ ghost use Rattle.body.specs.Steps.{asked_at, laid, noted, store_of, ticked};
 ghost use Rattle.engine.specs.Deferred.{AreInHand, IsDeferredFor, IsNothingDeferred, commands_at, run_with, with_commands};
 ghost use Rattle.engine.specs.Meanings.{HasMemories};
 ghost use Rattle.engine.specs.Shows.{IsShown, MayBeShown, NoneRunsIn};
-ghost use Rattle.engine.specs.Stops.{CannotOpen, CannotSync, IsNotLaid, LacksTick, StopsBy};
+ghost use Rattle.engine.specs.Stops.{CannotOpen, CannotSync, IsNotLaid, LacksTick, StopsBy, TellsOf};
 
 use crate::deferred::Deferred;
 use crate::stop::Stop;
@@ -50,6 +50,7 @@ impl RunState {
         ensures sets { OnOk result (kind_sets_of self.new.state.state.world.slots
             ≡ kind_sets_of self.old.state.state.world.slots) }
         ensures stopped { IfErr result (StopsBy false (CannotOpen built.now self.old.state.state)) }
+        ensures told { TellsOf (CannotOpen built.now self.old.state.state) result }
     {
         self.state.begin()?;
         self.deferred.grant(self.alloc, built, &mut self.state, 0)?;
@@ -73,6 +74,7 @@ impl RunState {
         ensures ticked { OnOk result (has_tick self.old.state.state ≡ true) }
         ensures deferred { self.new.deferred ≡ self.old.deferred }
         ensures stopped { IfErr result (StopsBy false (LacksTick self.old.state.state)) }
+        ensures told { TellsOf (LacksTick self.old.state.state) result }
     {
         let asked = built.condition(condition);
         self.state.coming()?;
@@ -106,6 +108,7 @@ impl RunState {
         ensures deferred { self.new.deferred ≡ self.old.deferred }
         ensures has { OnOk result (has_tick self.old.state.state ≡ true) }
         ensures stopped { IfErr result (StopsBy false (LacksTick self.old.state.state)) }
+        ensures told { TellsOf (LacksTick self.old.state.state) result }
     {
         let params = built.params(system);
         built.prove_apart();
@@ -151,6 +154,7 @@ impl RunState {
             ≡ with_commands system view.value.outcome.commands self.old.deferred) }
         ensures stopped { IfErr result (StopsBy false (IsNotLaid answer view.value
             self.old.state.state)) }
+        ensures told { TellsOf (IsNotLaid answer view.value self.old.state.state) result }
     {
         answer?;
         let commands = self.state.close(view, system as usize)?;
@@ -177,6 +181,7 @@ impl RunState {
             ≡ kind_sets_of self.old.state.state.world.slots) }
         ensures stopped { IfErr result (StopsBy false (CannotSync built.now point (run_with
             self.old.state.state self.old.deferred))) }
+        ensures told { TellsOf (LacksTick self.old.state.state) result }
     {
         self.deferred
             .sync(self.alloc, built, &mut self.state, point)

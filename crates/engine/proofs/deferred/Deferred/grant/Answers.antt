@@ -4,12 +4,12 @@ use Rattle.std.proofs.lemmas.List.{set-get_or}
 use Rattle.std.specs.Prelude.{All}
 use Rattle.std.specs.Vec.{with_items}
 use Rattle.model.proofs.serial.Engine.{after_grant-none, has_ids_for_level-none}
-use Rattle.model.specs.runs.RunState.{counts_of_level, spawners_of_level}
+use Rattle.model.specs.runs.RunState.{counts_of_level, has_ids_for_level, spawners_of_level}
 use Rattle.model.specs.state.Ids.{grant_each, has_ids_for_each, ids_of_each}
 use Rattle.body.specs.Steps.{StateValue, with_slots_in}
 use Rattle.engine.specs.Deferred.{DeferredValue, AreInHand, run_with, with_each_grant}
 use Rattle.engine.proofs.LevelGrants.{granted_is, has_ids_there, in_hand_granted, nobody_kept, none_above, noted_items, spawners_count, spawners_here, spawners_known}
-use Rattle.engine.proofs.Stops.{told_of}
+use Rattle.engine.proofs.Stops.{never_spent, told_alike, told_of}
 use Rattle.entity_table.specs.declared.fault.GrantFault.TheVariants.{IdsSpent}
 use Rattle.engine.proofs.deferred.Deferred.grant.Goals as goal
 use Rattle.engine.proofs.deferred.Deferred.grant.Goals.{After-deref_mut, In_ok-grant}
@@ -51,6 +51,12 @@ returns-then-syncs-level-clause-has c =
     let past = c.if-syncs-level.true in
     has_ids_for_level-none c.args.built.now c.args.level (run_with c.args.state.now.state c.args.self.now) (none_above c.args.built.now c.args.level c.prove_law.ensures (omega (arith, past, c.syncs.ensures)))
 
+pub returns-then-syncs-level-clause-spent : goal.returns-then-syncs-level-clause-spent
+returns-then-syncs-level-clause-spent c =
+    let past = c.if-syncs-level.true in
+    never_spent (has_ids_for_level c.args.built.now c.args.level (run_with c.args.state.now.state c.args.self.now))
+    (has_ids_for_level-none c.args.built.now c.args.level (run_with c.args.state.now.state c.args.self.now) (none_above c.args.built.now c.args.level c.prove_law.ensures (omega (arith, past, c.syncs.ensures))))
+
 pub grants_none-requires : goal.grants_none-requires
 grants_none-requires c =
     let count = spawners_count c.args.built.now c.args.level c.prove_law.ensures c.args.self.now c.requires.suits in
@@ -67,10 +73,18 @@ returns-then-grants_none-clause-has c =
     has_ids_for_level-none c.args.built.now c.args.level (run_with c.args.state.now.state c.args.self.now)
     (nobody_kept c.args.built.now c.args.level c.prove_law.ensures c.args.self.now c.requires.suits (let l = c.if-syncs-level.false in omega (arith, l, c.syncs.ensures)) (sym c.if-grants_none.ensures))
 
+pub returns-then-grants_none-clause-spent : goal.returns-then-grants_none-clause-spent
+returns-then-grants_none-clause-spent c =
+    never_spent (has_ids_for_level c.args.built.now c.args.level (run_with c.args.state.now.state c.args.self.now))
+    (has_ids_for_level-none c.args.built.now c.args.level (run_with c.args.state.now.state c.args.self.now)
+    (nobody_kept c.args.built.now c.args.level c.prove_law.ensures c.args.self.now c.requires.suits (let l = c.if-syncs-level.false in omega (arith, l, c.syncs.ensures)) (sym c.if-grants_none.ensures)))
+
 pub returns-in_err-grant-clause-spent : goal.returns-in_err-grant-clause-spent
-returns-in_err-grant-clause-spent c = λ told.
-    has_ids_there c.args.built.now c.args.level c.prove_law.ensures c.args.self.now c.requires.suits c.index_mut-spawners.result.now.counts c.args.state.now.state (here (goal.at.returns-in_err-grant-clause-spent c).After-deref_mut).1
-    ∙ c.in_err-grant.ensures.spent.0 (ap Err (told_of c.from_residual.result c.in_err-grant.field-0.0 IdsSpent c.from_residual.ensures.1 told))
+returns-in_err-grant-clause-spent c =
+    let there = has_ids_there c.args.built.now c.args.level c.prove_law.ensures c.args.self.now c.requires.suits c.index_mut-spawners.result.now.counts c.args.state.now.state (here (goal.at.returns-in_err-grant-clause-spent c).After-deref_mut).1 in (
+      λ told. there ∙ c.in_err-grant.ensures.spent.0 (ap Err (told_of c.from_residual.result c.in_err-grant.field-0.0 IdsSpent c.from_residual.ensures.1 told)),
+      λ none. told_alike c.from_residual.result c.in_err-grant.field-0.0 IdsSpent c.from_residual.ensures.1 (c.in_err-grant.ensures.spent.1 (sym there ∙ none)),
+    )
 
 pub grant-requires : goal.grant-requires
 grant-requires c =
@@ -93,6 +107,14 @@ returns-clause-has c =
     let counts = c.index_mut-spawners.result.now.counts in
     has_ids_there c.args.built.now c.args.level c.prove_law.ensures c.args.self.now c.requires.suits counts w (here (goal.at.returns-clause-has c).After-deref_mut).1
     ∙ true_from_ne_false (has_ids_for_each counts w.world.slots) (λ e. let clash = c.in_ok-grant.ensures.spent.1 e in absurd (cc))
+
+pub returns-clause-spent : goal.returns-clause-spent
+returns-clause-spent c =
+    let w = c.args.state.now.state in
+    let counts = c.index_mut-spawners.result.now.counts in
+    never_spent (has_ids_for_level c.args.built.now c.args.level (run_with w c.args.self.now))
+    (has_ids_there c.args.built.now c.args.level c.prove_law.ensures c.args.self.now c.requires.suits counts w (here (goal.at.returns-clause-spent c).After-deref_mut).1
+    ∙ true_from_ne_false (has_ids_for_each counts w.world.slots) (λ e. let clash = c.in_ok-grant.ensures.spent.1 e in absurd (cc)))
 
 pub returns-clause-in_hand : goal.returns-clause-in_hand
 returns-clause-in_hand c = λ hand fresh.

@@ -17,7 +17,7 @@ returns-in_err-grant-clause-stopped c =
     let mid = run_with c.finish_level.new.state.state c.finish_level.new.self in
     let done = c.in_ok-commanded.ensures in
     grant_stops (CannotSync s p run) c.in_err-grant.field-0.0 c.from_residual-in_err-grant.result c.from_residual-in_err-grant.ensures.1
-    (λ e. sync_ungranted s p run done.ticked (no_ids_above s p run mid done.synced (c.in_err-grant.ensures.spent (ap Err e))))
+    (λ e. sync_ungranted s p run done.ticked (no_ids_above s p run mid done.synced (c.in_err-grant.ensures.spent.0 (ap Err e))))
 
 pub returns-clause-synced : goal.returns-clause-synced
 returns-clause-synced c =

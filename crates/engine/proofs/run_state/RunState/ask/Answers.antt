@@ -1,7 +1,8 @@
-use Rattle.std.proofs.Common.{sym, ◌∙◌, ap}
+use Rattle.std.proofs.Common.{refl, sym, ◌∙◌, ap}
 use Rattle.model.specs.access.Condition.{Condition, holds}
 use Rattle.model.specs.steps.Schedule.{ScheduledCondition}
-use Rattle.model.specs.runs.RunState.{memory_of_condition}
+use Rattle.model.specs.runs.RunState.{has_tick, memory_of_condition}
+use Rattle.engine.proofs.Stops.{has_one, tells_no_tick, tick_met}
 use Rattle.engine.proofs.Weaving.{answer_alike, answer_woven}
 use Rattle.engine.proofs.run_state.RunState.ask.Goals as goal
 
@@ -15,3 +16,12 @@ returns-clause-answer c =
     c.in_ok-answer.ensures.answer
     ∙ ap (λ (x : Condition). holds x memory.last_run memory.cursors w) (c.cond.ensures ∙ ap (λ (x : ScheduledCondition). x.condition) c.condition-asked.ensures)
     ∙ sym (answer_alike s n w c.args.self.now.deferred ∙ answer_woven s n w)
+
+pub returns-in_err-coming-clause-told : goal.returns-in_err-coming-clause-told
+returns-in_err-coming-clause-told c = tells_no_tick c.args.self.now.state.state c.from_residual.result (c.in_err-coming.ensures.spent.0 refl) c.from_residual.ensures.1
+
+pub returns-in_err-answer-clause-told : goal.returns-in_err-answer-clause-told
+returns-in_err-answer-clause-told c = λ met m. tick_met c.args.self.now.state.state met (has_one (has_tick c.args.self.now.state.state) c.in_ok-coming.ensures.spent) m
+
+pub returns-clause-told : goal.returns-clause-told
+returns-clause-told c = λ met m. tick_met c.args.self.now.state.state met (has_one (has_tick c.args.self.now.state.state) c.in_ok-coming.ensures.spent) m

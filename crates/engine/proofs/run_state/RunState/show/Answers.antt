@@ -1,9 +1,9 @@
-use Rattle.std.proofs.Common.{◌++◌, rules, sym, ap, ◌∙◌, subst, arith}
+use Rattle.std.proofs.Common.{◌++◌, rules, refl, sym, ap, ◌∙◌, subst, arith}
 use Rattle.std.specs.List.{AllByRecursion}
 use Rattle.query_plan.specs.Standing.{ArePickedHome}
 use Rattle.model.specs.access.Access.{Params}
 use Rattle.model.specs.access.SelfConflict.{ConflictWithin}
-use Rattle.model.specs.runs.RunState.{memory_of_system}
+use Rattle.model.specs.runs.RunState.{has_tick, memory_of_system}
 use Rattle.model.specs.shown.Input.{shown}
 use Rattle.model.specs.shown.Outcome.{untouched}
 use Rattle.body.specs.Lent.{lent_in}
@@ -13,6 +13,7 @@ use Rattle.body.proofs.Outs.{out-same}
 use Rattle.body.specs.Keeps.{CanBeShown}
 use Rattle.model.specs.steps.Schedule.{params_of}
 use Rattle.engine.specs.Deferred.{grants_at}
+use Rattle.engine.proofs.Stops.{has_one, tells_no_tick, tick_met}
 use Rattle.engine.proofs.Starting.{can_be_shown, registers_at}
 use Rattle.engine.proofs.run_state.RunState.show.Goals as goal
 
@@ -52,3 +53,12 @@ returns-clause-held c = λ others held.
 pub open-requires-clause-home : goal.open-requires-clause-home
 open-requires-clause-home c =
     subst (λ (p : Params). AllByRecursion (λ query. ArePickedHome query c.args.self.now.state.layout) p.queries) (sym c.params-params.ensures) c.requires.home
+
+pub returns-in_err-tick-clause-told : goal.returns-in_err-tick-clause-told
+returns-in_err-tick-clause-told c = tells_no_tick c.args.self.now.state.state c.from_residual.result (c.in_err-tick.ensures.spent.0 refl) c.from_residual.ensures.1
+
+pub returns-in_err-view-clause-told : goal.returns-in_err-view-clause-told
+returns-in_err-view-clause-told c = λ met m. tick_met c.args.self.now.state.state met (has_one (has_tick c.args.self.now.state.state) c.in_ok-tick.ensures.spent) m
+
+pub returns-clause-told : goal.returns-clause-told
+returns-clause-told c = λ met m. tick_met c.args.self.now.state.state met (has_one (has_tick c.args.self.now.state.state) c.in_ok-tick.ensures.spent) m
