@@ -1,3 +1,4 @@
+pub mod Starts
 pub mod Stops
 pub mod RunsAs
 pub mod Meanings

@@ -6,7 +6,7 @@ ghost use Rattle.model.specs.declared.steps.Step.{Step as Action};
 ghost use Rattle.model.specs.state.State.{State};
 ghost use Rattle.model.specs.state.KindSets.{kind_sets_of};
 ghost use Rattle.model.specs.shown.Outcome.{BodyMeaning};
-ghost use Rattle.model.specs.steps.Schedule.{recording};
+ghost use Rattle.model.specs.steps.Schedule.{Recorded, recording};
 ghost use Rattle.model.specs.declared.steps.Step.TheVariants.{Finish, Start as Begin, Sync as Pass};
 ghost use Rattle.model.specs.declared.steps.Ready.TheVariants as ready;
 ghost use Rattle.model.specs.steps.Lawful.{May};
@@ -19,6 +19,7 @@ ghost use Rattle.engine.specs.Meanings.{meanings, AreFit};
 ghost use Rattle.engine.specs.Next.{IsAtRest, IsNext, IsOfferedIn, IsTaken, KeepsNext, StopsNext, StopsOffered, TakesOffered};
 ghost use Rattle.engine.specs.Alone.{IsBetweenAlone};
 ghost use Rattle.engine.specs.Stage.{sets_after, IsTake};
+ghost use Rattle.engine.specs.Starts.{starts_in, starts_with};
 ghost use Rattle.engine.specs.Stops.{StopsBy};
 ghost use Rattle.engine.specs.declared.stop.Stop.TheVariants as stop;
 
@@ -108,6 +109,9 @@ fn run_turns<'s, M: Mode<'s>, B: Body + 's>(
     ensures rest { OnOk result (IsAtRest B.meaning B.fits built.now jobs.new.bodies run.new.deferred
         run.new.state) }
     ensures empty { OnOk result (jobs.new.pool ≡ []) }
+    ensures counted { OnOk result ((trace : Recorded)
+        × (recording.new.traces.items ≡ recording.old.traces.items ++ trace ∷ [])
+        × (jobs.new.started ≡ starts_in trace.steps)) }
     ensures stopped { IfErr result (StopsBy (M.has_scope mode.now) (WideStops (M.width mode.now)
         built.now (meanings B.meaning built.now jobs.old.bodies) run.old.state.state)) }
     ensures kept { (result ≡ Err stop.NoWorker → IsTrue (M.stands mode.now))
@@ -151,6 +155,8 @@ fn do_turn<'s, M: Mode<'s>, B: Body + 's>(
     ensures quiet { IfOk result (λ done. (k : ℕ) → done.step ≡ Pass k → done.commanded ≡ false
         → kind_sets_of run.new.state.state.world.slots
         ≡ kind_sets_of run.old.state.state.world.slots) }
+    ensures counted { IfOk result (λ done. jobs.new.started
+        ≡ starts_with done.step jobs.old.started) }
     ensures stopped { IfErr result (StopsNext B.meaning B.fits (M.has_scope mode.now)
         (M.width mode.now) built.now jobs.old.bodies run.old.deferred jobs.old.pool
         run.old.state turn) }
@@ -184,6 +190,7 @@ fn do_plain<B: Body>(built: &Built, run: &mut RunState, offer: Ready) -> Result<
     ensures quiet { IfOk result (λ done. (k : ℕ) → done.step ≡ Pass k → done.commanded ≡ false
         → kind_sets_of run.new.state.state.world.slots
         ≡ kind_sets_of run.old.state.state.world.slots) }
+    ensures plain { IfOk result (λ done. (n : ℕ) → starts_with done.step n ≡ n) }
     ensures stopped { IfErr result (StopsOffered B.meaning B.fits built.now run.old.deferred
         run.old.state offer) }
 {

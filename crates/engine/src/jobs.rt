@@ -1,6 +1,6 @@
 // The bodies of a run, at home and out, and the jobs with which they are out: how a system starts, and how one ends.
 
-ghost use Rattle.std.specs.Prelude.{◌≡◌, ◌<◌, ◌+◌, [], ℕ, List, true, false, length, Some, Err, IfErr, IfOk, IsTrue, OnOk};
+ghost use Rattle.std.specs.Prelude.{◌≡◌, ◌<◌, ◌+◌, [], ℕ, List, true, false, length, set, Some, Err, IfErr, IfOk, IsTrue, OnOk};
 ghost use Rattle.model.specs.declared.steps.Step.TheVariants.{Start as Begin, Finish};
 ghost use Rattle.model.specs.Lists.{IsIn};
 ghost use Rattle.model.specs.shown.Outcome.{BodyMeaning};
@@ -12,7 +12,9 @@ ghost use Rattle.engine.specs.Alone.{IsRunAlone, StopsAlone};
 ghost use Rattle.engine.specs.Deferred.{IsDeferredFor};
 ghost use Rattle.engine.specs.Jobs.{woven, AreKept, CanBegin, InHand, Placed};
 ghost use Rattle.engine.specs.Meanings.{AllKeepWithin};
+ghost use Rattle.engine.specs.Starts.{IsNextStart};
 ghost use Rattle.engine.specs.Stops.{StopsBy};
+ghost use Rattle.worker_pool.specs.declared.fault.HandOutFault.TheVariants as hand;
 ghost use Rattle.engine.specs.declared.stop.Stop.TheVariants as stop;
 
 use crate::bodies::Bodies;
@@ -57,6 +59,8 @@ pub(crate) fn start<'s, M: Mode<'s>, B: Body + 's>(
         jobs.new.pool run.new.state) }
     ensures hand { OnOk result (InHand built.now run.new.deferred jobs.new.pool run.new.state) }
     ensures longer { OnOk result (length jobs.new.pool ≡ length jobs.old.pool + 1) }
+    ensures numbered { OnOk result (IsNextStart jobs.old.started jobs.old.pool jobs.new.started
+        jobs.new.pool) }
     ensures stopped { IfErr result (StopsBy (M.has_scope mode.now) (λ met. (bodies : List
         BodyMeaning)
         → interleaved_cause_of built.now bodies (Begin system) (woven run.old.state.state
@@ -80,17 +84,37 @@ pub(crate) fn start<'s, M: Mode<'s>, B: Body + 's>(
         },
     ) {
         Ok(()) => Ok(()),
-        Err(HandOutFault::Memory(start)) => {
-            let Start { body, .. } = start;
-            jobs.bodies.put(system as usize, body);
-            Err(Stop::Memory)
+        Err(fault) => Err(take_back(&mut jobs.bodies, fault)),
+    }
+}
+
+// Puts the body of a start that isn't handed out in its place, where it comes back. Why the run stops.
+fn take_back<B: Body>(bodies: &mut Bodies<B>, fault: HandOutFault<B>) -> Stop
+    ensures told { result
+        ≡ elim fault [
+          | hand.Memory start ↦ stop.Memory
+          | hand.NoWorker start ↦ stop.NoWorker
+          | hand.Lost ↦ stop.NoWorker
+        ] }
+    ensures back { bodies.new
+        ≡ elim fault [
+          | hand.Memory start ↦ set bodies.old start.system (Some start.body)
+          | hand.NoWorker start ↦ set bodies.old start.system (Some start.body)
+          | hand.Lost ↦ bodies.old
+        ] }
+{
+    match fault {
+        HandOutFault::Memory(start) => {
+            let Start { system, body, .. } = start;
+            bodies.put(system as usize, body);
+            Stop::Memory
         }
-        Err(HandOutFault::NoWorker(start)) => {
-            let Start { body, .. } = start;
-            jobs.bodies.put(system as usize, body);
-            Err(Stop::NoWorker)
+        HandOutFault::NoWorker(start) => {
+            let Start { system, body, .. } = start;
+            bodies.put(system as usize, body);
+            Stop::NoWorker
         }
-        Err(HandOutFault::Lost) => Err(Stop::NoWorker),
+        HandOutFault::Lost => Stop::NoWorker,
     }
 }
 
@@ -126,6 +150,7 @@ pub(crate) fn finish<'s, M: Mode<'s>, B: Body + 's>(
         → InHand built.now run.old.deferred jobs.old.pool run.old.state
         → InHand built.now run.new.deferred jobs.new.pool run.new.state) }
     ensures shorter { OnOk result (length jobs.new.pool + 1 ≡ length jobs.old.pool) }
+    ensures counted { jobs.new.started ≡ jobs.old.started }
     ensures stopped { IfErr result (λ told. (bodies : List BodyMeaning)
         → Placed B.meaning B.fits (M.has_scope mode.now) built.now bodies jobs.old.bodies
         jobs.old.pool run.old.state

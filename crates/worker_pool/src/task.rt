@@ -1,5 +1,6 @@
 // The jobs of a board: starts, and what comes of them.
 
+ghost use Rattle.std.specs.Prelude.{◌≡◌, ℕ};
 ghost use Rattle.worker_pool.specs.Ran.{Ran};
 
 use crate::start::{JobResult, Start};
@@ -9,8 +10,11 @@ use std::marker::PhantomData;
 
 /// Jobs that are run, each with the number of its start.
 pub trait Runs: Task {
+    ghost number: { Self.Job → ℕ };
+
     /// The number of the start, which a gate is called with.
-    fn number(job: &Self::Job) -> u64;
+    fn number(job: &Self::Job) -> u64
+        ensures { result ≡ number job.now };
 
     /// Runs a job.
     fn run(job: Self::Job) -> Self::Outcome
@@ -33,6 +37,8 @@ impl<B: Body> Task for StartTask<B> {
 }
 
 impl<B: Body> Runs for StartTask<B> {
+    ghost number = { λ start. start.number };
+
     fn number(start: &Start<B>) -> u64 {
         start.number
     }

@@ -198,6 +198,7 @@ returns-in_err-done-in-Take g c =
     record {
       taken = none_ok _ _ result is;
       quiet = none_ok _ _ result is;
+      counted = none_ok _ _ result is;
       stopped = handed_on (StopsNext meaning fits there width s slots deferred out w c.args.turn) result told is
           (λ sets bodies start h known. c.in_err-done-in-Take.ensures.stopped there width sets bodies start h slots out
           (record { between = known.between; take = subst (λ (t : Turn). IsTurn (recording s sets) h (length out) width (Some t)) c.in-Take.is known.following }));
@@ -220,6 +221,7 @@ returns-in_ok-done-in-Take g c =
       taken = λ sets bodies start h known. c.in_ok-done-in-Take.ensures.taken there width sets bodies start h slots out
           (record { between = known.between; take = subst (λ (t : Turn). IsTurn (recording s sets) h (length out) width (Some t)) c.in-Take.is known.following });
       quiet = c.in_ok-done-in-Take.ensures.quiet;
+      counted = sym (c.in_ok-done-in-Take.ensures.plain c.args.jobs.now.started);
       stopped = tt;
       kept = tt;
     }

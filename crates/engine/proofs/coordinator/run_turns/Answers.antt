@@ -10,6 +10,7 @@ use Rattle.engine.specs.Jobs.{woven, AreKept}
 use Rattle.engine.specs.Meanings.{meanings}
 use Rattle.engine.specs.Next.{IsBetween, IsNext}
 use Rattle.engine.specs.Stops.{CannotOpen, StopsBy}
+use Rattle.engine.specs.Starts.{starts_in, starts_with}
 use Rattle.engine.proofs.Placing.{meanings_count, placed_first, placed_kept}
 use Rattle.engine.proofs.Staging.{stage_open, stage_end, stops_open, none_there, falls}
 use Rattle.engine.proofs.Stops.{lost_or_kept, stops_among}
@@ -72,6 +73,7 @@ loop-turn-init g c =
       schedule = c.begin.ensures.schedule ∙ ap (λ (x : Stand). x.schedule) c.deref_mut-core.ensures.value ∙ c.requires.following.knows.schedule;
       records = ap (λ (o : Option (List (List ℕ))). is_some o) made.sets;
       stands = subst₂ (Stands c.begin.new.core) (sym made.sets) (sym made.steps) made.stands;
+      started = ap starts_in (sym made.steps);
       between = subst₂ (λ (ys : Option (List (List ℕ))) (x : List Step). IsBetween meaning fits there width s ys bodies start x c.args.jobs.now.bodies later.deferred c.args.jobs.now.pool later.state) (sym made.sets) (sym made.steps) (record {
         listed = refl;
         stage = stage_open width (recording s (Some (opening ∷ []))) bodies start later.state.state later.deferred c.args.jobs.now.pool
@@ -253,6 +255,7 @@ loop-turn-preserved g c =
       schedule = ok.schedule ∙ inv.schedule;
       records = ok.records;
       stands = ok.stands;
+      started = c.in_ok-done.ensures.counted ∙ ap (starts_with c.in_ok-done.done.step) inv.started ∙ sym (ap starts_in ok.steps);
       between = subst₂ (λ (ys : Option (List (List ℕ))) (x : List Step). IsBetween meaning fits there width s ys bodies start x later.jobs.bodies later.run.deferred later.jobs.pool later.run.state) (sym ok.sets) (sym ok.steps) after;
     }
 
@@ -389,3 +392,6 @@ take-requires-clause-latest g c = λ k is quiet.
     let state = c.loop-turn.run.state.state in
     latest_there (g.M.Mode.width c.args.mode.now) s trace.sets bodies start trace.steps state c.loop-turn.run.deferred c.loop-turn.jobs.pool inv.records inv.between.stage
     ∙ ap Some (sym (c.in_ok-done.ensures.quiet k is quiet))
+
+pub returns-clause-counted : goal.returns-clause-counted
+returns-clause-counted g c = (c.loop-turn.trace, c.in_ok-add.ensures.traces, c.loop-turn.invariant.started)

@@ -1,4 +1,4 @@
-use Rattle.std.proofs.Common.{◌≡◌, inl, inr, ◌∷◌, ◌++◌, [], Bool, List, true, false, Option, Some, None, Result, Err, set, refl, sym, ap, ◌∙◌, subst}
+use Rattle.std.proofs.Common.{◌≡◌, inl, inr, ◌∷◌, ◌++◌, [], List, true, false, Option, Some, Result, Err, set, refl, sym, ap, ◌∙◌, subst}
 use Rattle.std.proofs.lemmas.Bool.{false≢true}
 use Rattle.model.specs.declared.steps.Step.TheVariants.{Start as Begin}
 use Rattle.model.specs.runs.Meaning.{interleaved_step}
@@ -12,6 +12,8 @@ use Rattle.worker_pool.specs.JobOut.{JobOut}
 use Rattle.engine.specs.Jobs.{held_by, woven, InHand, Placed}
 use Rattle.engine.specs.Deferred.{DeferredValue, grants_at}
 use Rattle.engine.specs.Stops.{LacksTick, StopsBy}
+use Rattle.engine.specs.declared.stop.Stop.{Stop}
+use Rattle.engine.specs.declared.stop.Stop.TheVariants as stop
 use Rattle.worker_pool.specs.declared.fault.HandOutFault.TheVariants as hand
 use Rattle.engine.proofs.Placing.{IsHanded, body-there, put_again, start_there, placed_start}
 use Rattle.engine.proofs.Starting.{in_hand_start}
@@ -19,9 +21,6 @@ use Rattle.engine.proofs.Stops.{stops_among}
 use denote.Param.Send.{sendable}
 use Rattle.engine.proofs.jobs.start.Goals as goal
 use Rattle.model.proofs.lists.Results.{handed_on}
-
-one-body : {B : Type 0} {a b : B} → Some a ≡ Some b → a ≡ b
-one-body e = cc
 
 pub show-requires : goal.show-requires
 show-requires g c =
@@ -68,77 +67,44 @@ returns-in_err-view-clause-stopped g c =
     (stops_among there (LacksTick w.state) (λ met. (bodies : List BodyMeaning) → interleaved_cause_of s bodies (Begin n) (woven w.state deferred out) ≡ Some met) told
     (λ met e bodies. e) c.in_err-view.ensures.stopped)
 
--- a fault that gives a job back gives back the one that was handed out, and is no other fault
-same_back : {T F B : Type 0} (fault told given : F) (mine yours : B) → fault ≡ told → ◌≡◌ {A = Result T F} (Err fault) (Err given) → (back : F → Option B) → back told ≡ Some mine → back given ≡ Some yours → mine ≡ yours
-same_back {T} {F} {B} fault told given mine yours is e back m y = one-body (sym m ∙ ap back (sym is) ∙ ap back (one e) ∙ y)
-  where
-    one : ◌≡◌ {A = Result T F} (Err fault) (Err given) → fault ≡ given
-    one h = let whole : ◌≡◌ {A = Result T F} (Err fault) (Err given) = h in cc
+-- equal errors are of one fault
+one-fault : {T F : Type 0} {fault given : F} → ◌≡◌ {A = Result T F} (Err fault) (Err given) → fault ≡ given
+one-fault {T} {F} {fault} {given} e = let whole : ◌≡◌ {A = Result T F} (Err fault) (Err given) = e in cc
 
-other : {T F : Type 0} (fault told given : F) → fault ≡ told → ◌≡◌ {A = Result T F} (Err fault) (Err given) → (which : F → Bool) → which told ≡ true → which given ≡ false → ⊥
-other {T} {F} fault told given is e which m y = false≢true (sym y ∙ ap which (sym (one e)) ∙ ap which is ∙ m)
-  where
-    one : ◌≡◌ {A = Result T F} (Err fault) (Err given) → fault ≡ given
-    one h = let whole : ◌≡◌ {A = Result T F} (Err fault) (Err given) = h in cc
+-- what is told of a fault is told of the one that it is
+of-fault : {T F A : Type 0} (fault given : F) → ◌≡◌ {A = Result T F} (Err fault) (Err given) → (f : F → A) (x : A) → x ≡ f fault → x ≡ f given
+of-fault fault given e f x is = is ∙ ap f (one-fault e)
 
-pub returns-in-Err-Memory-clause-kept : goal.returns-in-Err-Memory-clause-kept
-returns-in-Err-Memory-clause-kept g c = λ lost.
+pub returns-in-Err-clause-stopped : goal.returns-in-Err-clause-stopped
+returns-in-Err-clause-stopped g c =
+    let s = c.args.built.now in
     let n = c.args.system in
-    let slots = c.args.jobs.now.bodies in
-    let told = c.in-Err-Memory.ensures in
-    let is = c.in-Err-Memory.field-0-is in
-    let back : c.in-Err-Memory.start.body ≡ c.take-body.result = elim told.only [
-      | inl e ↦ same_back _ _ _ _ _ is e (λ f. elim f as (λ x. Option g.row.B.Denot) [ hand.Memory job ↦ Some job.body | hand.NoWorker job ↦ None | hand.Lost ↦ None ]) refl refl
-      | inr more ↦ absurd (elim more [
-        | inl e ↦ other _ _ _ is e.0 (λ f. elim f as (λ x. Bool) [ hand.Memory job ↦ true | hand.NoWorker job ↦ false | hand.Lost ↦ false ]) refl refl
-        | inr e ↦ other _ _ _ is e.0 (λ f. elim f as (λ x. Bool) [ hand.Memory job ↦ true | hand.NoWorker job ↦ false | hand.Lost ↦ false ]) refl refl
-      ])
-    ] in
-    (c.put.ensures ∙ ap (λ b. set c.take-body.new.self n (Some b)) back ∙ ap (λ xs. set xs n (Some c.take-body.result)) c.take-body.ensures.taken ∙ put_again slots n c.take-body.result c.take-body.ensures.body, told.err)
-
-pub returns-in-Err-NoWorker-clause-kept : goal.returns-in-Err-NoWorker-clause-kept
-returns-in-Err-NoWorker-clause-kept g c = λ lost.
-    let n = c.args.system in
-    let slots = c.args.jobs.now.bodies in
-    let told = c.in-Err-NoWorker.ensures in
-    let is = c.in-Err-NoWorker.field-0-is in
-    let back : c.in-Err-NoWorker.start.body ≡ c.take-body.result = elim told.only [
-      | inl e ↦ absurd (other _ _ _ is e (λ f. elim f as (λ x. Bool) [ hand.Memory job ↦ false | hand.NoWorker job ↦ true | hand.Lost ↦ false ]) refl refl)
-      | inr more ↦ elim more [
-        | inl e ↦ same_back _ _ _ _ _ is e.0 (λ f. elim f as (λ x. Option g.row.B.Denot) [ hand.Memory job ↦ None | hand.NoWorker job ↦ Some job.body | hand.Lost ↦ None ]) refl refl
-        | inr e ↦ absurd (other _ _ _ is e.0 (λ f. elim f as (λ x. Bool) [ hand.Memory job ↦ false | hand.NoWorker job ↦ true | hand.Lost ↦ false ]) refl refl)
-      ]
-    ] in
-    (c.put-in-Err-NoWorker.ensures ∙ ap (λ b. set c.take-body.new.self n (Some b)) back ∙ ap (λ xs. set xs n (Some c.take-body.result)) c.take-body.ensures.taken ∙ put_again slots n c.take-body.result c.take-body.ensures.body, told.err)
-
-pub returns-in-Err-NoWorker-clause-stopped : goal.returns-in-Err-NoWorker-clause-stopped
-returns-in-Err-NoWorker-clause-stopped g c =
     let there = g.M.SpawnThreads.has_scope c.args.mode.now in
-    let is = c.in-Err-NoWorker.field-0-is in
-    elim c.in-Err-NoWorker.ensures.only as (λ x. there ≡ true) [
-      | inl e ↦ absurd (other _ _ _ is e (λ f. elim f as (λ x. Bool) [ hand.Memory job ↦ false | hand.NoWorker job ↦ true | hand.Lost ↦ false ]) refl refl)
-      | inr more ↦ elim more [ inl e ↦ e.1 | inr e ↦ e.1 ]
+    let w = c.args.run.now.state in
+    let deferred = c.args.run.now.deferred in
+    let out = c.args.jobs.now.pool in
+    let means : Stop → Type 0 = StopsBy there (λ met. (bodies : List BodyMeaning) → interleaved_cause_of s bodies (Begin n) (woven w.state deferred out) ≡ Some met) in
+    elim c.in-Err.ensures.only as (λ x. means c.take_back.result) [
+      | inl e ↦ subst means (sym (of-fault _ _ e (λ f. elim f as (λ x. Stop) [ hand.Memory job ↦ stop.Memory | hand.NoWorker job ↦ stop.NoWorker | hand.Lost ↦ stop.NoWorker ]) c.take_back.result c.take_back.ensures.told)) tt
+      | inr more ↦ elim more as (λ x. means c.take_back.result) [
+        | inl e ↦ subst means (sym (of-fault _ _ e.0 (λ f. elim f as (λ x. Stop) [ hand.Memory job ↦ stop.Memory | hand.NoWorker job ↦ stop.NoWorker | hand.Lost ↦ stop.NoWorker ]) c.take_back.result c.take_back.ensures.told)) e.1
+        | inr e ↦ subst means (sym (of-fault _ _ e.0 (λ f. elim f as (λ x. Stop) [ hand.Memory job ↦ stop.Memory | hand.NoWorker job ↦ stop.NoWorker | hand.Lost ↦ stop.NoWorker ]) c.take_back.result c.take_back.ensures.told)) e.1
+      ]
     ]
 
 -- a job is lost only where no worker stands
-pub returns-in-Err-Lost-clause-kept : goal.returns-in-Err-Lost-clause-kept
-returns-in-Err-Lost-clause-kept g c = λ lost.
-    let is = c.in-Err-Lost.field-0-is in
-    absurd (elim c.in-Err-Lost.ensures.only [
-      | inl e ↦ other _ _ _ is e (λ f. elim f as (λ x. Bool) [ hand.Memory job ↦ false | hand.NoWorker job ↦ false | hand.Lost ↦ true ]) refl refl
-      | inr more ↦ elim more [
-        | inl e ↦ other _ _ _ is e.0 (λ f. elim f as (λ x. Bool) [ hand.Memory job ↦ false | hand.NoWorker job ↦ false | hand.Lost ↦ true ]) refl refl
-        | inr e ↦ false≢true (sym e.2 ∙ lost refl)
+pub returns-in-Err-clause-kept : goal.returns-in-Err-clause-kept
+returns-in-Err-clause-kept g c = λ lost.
+    let n = c.args.system in
+    let slots = c.args.jobs.now.bodies in
+    let again = ap (λ xs. set xs n (Some c.take-body.result)) c.take-body.ensures.taken ∙ put_again slots n c.take-body.result c.take-body.ensures.body in
+    let kept = c.in-Err.ensures.err in
+    elim c.in-Err.ensures.only as (λ x. (c.take_back.new.bodies ≡ slots) × (c.hand_out.new.self ≡ c.args.jobs.now.pool)) [
+      | inl e ↦ (of-fault _ _ e (λ f. elim f as (λ x. List (Option g.row.B.Denot)) [ hand.Memory job ↦ set c.take-body.new.self job.system (Some job.body) | hand.NoWorker job ↦ set c.take-body.new.self job.system (Some job.body) | hand.Lost ↦ c.take-body.new.self ]) c.take_back.new.bodies c.take_back.ensures.back ∙ again, kept)
+      | inr more ↦ elim more as (λ x. (c.take_back.new.bodies ≡ slots) × (c.hand_out.new.self ≡ c.args.jobs.now.pool)) [
+        | inl e ↦ (of-fault _ _ e.0 (λ f. elim f as (λ x. List (Option g.row.B.Denot)) [ hand.Memory job ↦ set c.take-body.new.self job.system (Some job.body) | hand.NoWorker job ↦ set c.take-body.new.self job.system (Some job.body) | hand.Lost ↦ c.take-body.new.self ]) c.take_back.new.bodies c.take_back.ensures.back ∙ again, kept)
+        | inr e ↦ absurd (false≢true (sym e.2 ∙ lost (of-fault _ _ e.0 (λ f. elim f as (λ x. Stop) [ hand.Memory job ↦ stop.Memory | hand.NoWorker job ↦ stop.NoWorker | hand.Lost ↦ stop.NoWorker ]) c.take_back.result c.take_back.ensures.told)))
       ]
-    ])
-
-pub returns-in-Err-Lost-clause-stopped : goal.returns-in-Err-Lost-clause-stopped
-returns-in-Err-Lost-clause-stopped g c =
-    let there = g.M.SpawnThreads.has_scope c.args.mode.now in
-    let is = c.in-Err-Lost.field-0-is in
-    elim c.in-Err-Lost.ensures.only as (λ x. there ≡ true) [
-      | inl e ↦ absurd (other _ _ _ is e (λ f. elim f as (λ x. Bool) [ hand.Memory job ↦ false | hand.NoWorker job ↦ false | hand.Lost ↦ true ]) refl refl)
-      | inr more ↦ elim more [ inl e ↦ e.1 | inr e ↦ e.1 ]
     ]
 
 pub returns-in-Ok-clause-started : goal.returns-in-Ok-clause-started
@@ -196,3 +162,11 @@ returns-in-Ok-clause-hand g c =
     subst (λ (x : DeferredValue). InHand s x c.hand_out.new.self later) (sym c.show.ensures.deferred)
     (subst (λ (xs : List (JobOut g.row.B.Denot)). InHand s deferred xs later) (sym c.in-Ok.ensures.ok)
     (in_hand_start s n w later deferred out job c.requires.allowed.known c.requires.placed.1.memories c.prove_law.ensures.memories c.requires.hand c.requires.allowed.given handed))
+
+pub returns-in-Ok-clause-numbered : goal.returns-in-Ok-clause-numbered
+returns-in-Ok-clause-numbered g c = record {
+  job = _;
+  handed = c.in-Ok.ensures.ok;
+  number = refl;
+  counted = c.saturating_add-number.ensures;
+}
