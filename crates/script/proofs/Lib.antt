@@ -25,3 +25,4 @@ pub mod Orders
 pub mod ColumnCode
 pub mod ListedCode
 pub mod Sources
+pub mod TakingMemory
