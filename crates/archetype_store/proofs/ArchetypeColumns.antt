@@ -124,7 +124,7 @@ length-update_kind (n ∷ ks) k y (x ∷ xs) = go (n == k) (length-update_kind k
     go false h = ap suc h
 
 module _ (T : List TableValue) (n t : ℕ) (at : IsTableOf T n t) where
-  standing_seen : (k : ℕ) → column_home (archetype_at (layout_of T) n) k ≡ option_map is_home (standing_of (table_at T t) k)
+  pub standing_seen : (k : ℕ) → column_home (archetype_at (layout_of T) n) k ≡ option_map is_home (standing_of (table_at T t) k)
   standing_seen k = ap (λ a. column_home a k) (numbered T n t at) ∙ at_kind-map is_home (table_at T t).kinds k (table_at T t).standings
 
   pub home_there : (k : ℕ) → column_home (archetype_at (layout_of T) n) k ≡ Some true → IsHome (standing_of (table_at T t) k)

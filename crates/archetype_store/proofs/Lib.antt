@@ -7,6 +7,7 @@ pub mod KindSets
 pub mod FittingTables
 pub mod TableIndex
 pub mod RowsPlaced
+pub mod RowsHome
 pub mod Laid
 pub mod Laying
 pub mod Changing

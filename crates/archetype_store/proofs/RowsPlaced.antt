@@ -14,13 +14,13 @@ some_rows : (rows : List TableRow) (row : ℕ) (e : Entity) → slice_get (map (
 some_rows [] row e h = absurd (cc)
 some_rows (r ∷ rows) row e h = refl
 
-peopled_within : (T : List TableValue) (t : ℕ) → is_there (table_at T t).rows ≡ true → t < length T
+pub peopled_within : (T : List TableValue) (t : ℕ) → is_there (table_at T t).rows ≡ true → t < length T
 peopled_within [] t h = absurd (cc)
 peopled_within (u ∷ us) zero h = omega arith
 peopled_within (u ∷ us) (suc t) h = let l = peopled_within us t h in omega arith
 
 module _ (T : List TableValue) (t row : ℕ) (e : Entity) (there : entity_in_row T t row ≡ Some e) where
-  peopled : is_there (table_at T t).rows ≡ true
+  pub peopled : is_there (table_at T t).rows ≡ true
   peopled = some_rows (table_at T t).rows row e there
 
   -- the table of a row is an archetype

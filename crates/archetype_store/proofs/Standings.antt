@@ -97,7 +97,7 @@ owned_kept ts us e h = owned_from us (subst AreOwned (sym e) (owned_of ts h))
 
 -- ---- the layout
 
-homes_seen : (ss : List Standing) → list_all (λ home. home) (map is_home ss) ≡ list_all is_home ss
+pub homes_seen : (ss : List Standing) → list_all (λ home. home) (map is_home ss) ≡ list_all is_home ss
 homes_seen [] = refl
 homes_seen (s ∷ ss) = ap (λ b. is_home s && b) (homes_seen ss)
 

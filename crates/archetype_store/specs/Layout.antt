@@ -1,5 +1,5 @@
 -- How components are laid out: the archetypes that have entities.
-use Rattle.std.specs.Prelude.{◌≡◌, ◌≢◌, ℕ, Bool, true, cond, ◌==◌, List, [], ◌∷◌, length, get_or, map, Option}
+use Rattle.std.specs.Prelude.{◌≡◌, ◌≢◌, ℕ, Bool, true, false, cond, ◌==◌, List, [], ◌∷◌, length, get_or, map, Option, Some}
 use Rattle.std.specs.List.{list_any, list_all, AllByRecursion}
 use Rattle.model.specs.Lists.{is_there, update_at}
 use Rattle.model.specs.declared.entities.Entity.{Entity}
@@ -52,6 +52,14 @@ AreAllHome layout = AllByRecursion (λ a. list_all (λ home. home) a.homes ≡ t
 -- whether an entity of an index is among these
 abbrev pub has_index : ℕ → List Entity → Bool
 has_index index entities = list_any (λ e. e.index == index) entities
+
+-- the column of a kind is at home in the archetype in which an entity of this index is, where there is one: it may be read for it
+abbrev pub IsCellHome : List Archetype → ℕ → ℕ → Type 0
+IsCellHome layout index kind = (n : ℕ) → has_index index (archetype_at layout n).entities ≡ true → column_home (archetype_at layout n) kind ≢ Some false
+
+-- all columns of that archetype are
+abbrev pub IsRowHome : List Archetype → ℕ → Type 0
+IsRowHome layout index = (n : ℕ) → has_index index (archetype_at layout n).entities ≡ true → list_all (λ home. home) (archetype_at layout n).homes ≡ true
 
 -- kinds rise and are at least one, and each has a column
 pub record IsShape {A : Type 0} (kinds : List ℕ) (columns : List A) : Type 0 where

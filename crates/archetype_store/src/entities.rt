@@ -18,7 +18,7 @@ ghost use Rattle.archetype_store.specs.Slot.{value_of_slot, cell_of, column_cell
 ghost use Rattle.archetype_store.specs.Changes.{changed, components_left, AreOfOtherIndices, IsHeldBy};
 ghost use Rattle.archetype_store.specs.Store.{slots_with};
 ghost use Rattle.archetype_store.specs.Storage.{row_of};
-ghost use Rattle.archetype_store.specs.Layout.{archetype_at, column_home, with_home, IsLayoutOf, AreAllHome};
+ghost use Rattle.archetype_store.specs.Layout.{archetype_at, column_home, with_home, IsLayoutOf, AreAllHome, IsCellHome, IsRowHome};
 ghost use Rattle.archetype_store.specs.Places.{IsRowPlace};
 ghost use Rattle.std.specs.List.{AllByRecursion};
 ghost use Rattle.column_store.specs.Order.{AreApart as AreRowsApart};
@@ -156,7 +156,7 @@ impl Entities {
 
     /// The component of the kind with this number, where the entity lives and has one.
     pub fn find(&self, e: Entity, number: u32) -> Option<StampedValue>
-        requires { AreAllHome self.now.layout }
+        requires { IsCellHome self.now.layout e.index number }
         ensures cell { option_map (λ s. (component_of s).cell) result
             ≡ cell_of self.now.slots e number }
         ensures number { IfSome result (λ s. stamped_number s ≡ number) }
@@ -426,7 +426,7 @@ impl Entities {
 
     /// Lists the components of an index, in rising kinds, in the room of a list.
     pub fn components(&self, index: u32, components: &mut Components) -> Result<(), AllocError>
-        requires { AreAllHome self.now.layout }
+        requires { IsRowHome self.now.layout index }
         ensures { OnOk result (map component_of components.new.items
             ≡ row_at self.now.slots index) }
     {

@@ -7,7 +7,7 @@ ghost use Rattle.column_store.specs.Cells.{stamped_number};
 ghost use Rattle.archetype_store.specs.Row.{component_of};
 ghost use Rattle.std.specs.Arc.{arc_value};
 ghost use Rattle.kinds.specs.Kind.{kind_number};
-ghost use Rattle.archetype_store.specs.Layout.{archetype_at, column_home, with_home, AreAllHome};
+ghost use Rattle.archetype_store.specs.Layout.{archetype_at, column_home, with_home, AreAllHome, IsCellHome, IsRowHome};
 ghost use Rattle.archetype_store.specs.Places.{IsRowPlace};
 ghost use Rattle.std.specs.List.{AllByRecursion};
 ghost use Rattle.column_store.specs.Order.{AreApart};
@@ -94,7 +94,7 @@ impl Storage {
 
     /// The component of the kind with this number of the entity of an index.
     pub fn find(&self, index: u32, number: u32) -> Option<StampedValue>
-        requires { AreAllHome self.now.layout }
+        requires { IsCellHome self.now.layout index number }
         ensures cell { option_map (λ s. (component_of s).cell) result
             ≡ cell_at (row_of self.now.rows index) number }
         ensures number { IfSome result (λ s. stamped_number s ≡ number) }
@@ -153,7 +153,7 @@ impl Storage {
 
     /// Lists the components of the entity of an index, in rising kinds, in the room of a list.
     pub fn components(&self, index: u32, components: &mut Components) -> Result<(), AllocError>
-        requires { AreAllHome self.now.layout }
+        requires { IsRowHome self.now.layout index }
         ensures { OnOk result (map component_of components.new.items ≡ row_of self.now.rows index) }
     {
         match place_at(&self.places, index) {

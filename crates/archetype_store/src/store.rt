@@ -18,7 +18,7 @@ ghost use Rattle.entity_table.specs.Ids.{slot_at, lives_at, IsGranted, AreApart,
 ghost use Rattle.std.specs.Arc.{arc_value};
 ghost use Rattle.std.specs.List.{AllByRecursion};
 ghost use Rattle.archetype_store.specs.Slot.{value_of_slot, cell_of, column_cells, bare_of};
-ghost use Rattle.archetype_store.specs.Layout.{archetype_at, column_home, with_home, IsLayoutOf, AreAllHome};
+ghost use Rattle.archetype_store.specs.Layout.{archetype_at, column_home, with_home, IsLayoutOf, AreAllHome, IsCellHome, IsRowHome};
 ghost use Rattle.archetype_store.specs.Places.{IsRowPlace};
 ghost use Rattle.archetype_store.specs.Lending.{CanTake, CanShare, CanComeHome, AreTaken, AreShared, all_away, all_home};
 ghost use Rattle.column_store.specs.Order.{AreApart as AreRowsApart};
@@ -564,6 +564,7 @@ impl World {
         ensures { IfOk result (λ row. map component_of row.items
             ≡ row_at self.now.state.slots index) }
     {
+        self.prove_home();
         let mut row = Components::new(*self.change_list.allocator());
         self.components(index, &mut row)?;
         Ok(row)
@@ -615,9 +616,16 @@ impl World {
         }
     }
 
-    /// The component of this kind of an entity that lives.
-    pub fn get<C: Component>(&self, e: Entity) -> Option<C>
+    /// Where all columns are at home, those of each entity are.
+    pub fn prove_home(&self)
         requires { AreAllHome self.now.layout }
+        ensures cells { (index kind : ℕ) → IsCellHome self.now.layout index kind }
+        ensures rows { (index : ℕ) → IsRowHome self.now.layout index }
+    {}
+
+    /// The component of this kind of an entity that lives: of the columns that of the kind has to be at home in its archetype.
+    pub fn get<C: Component>(&self, e: Entity) -> Option<C>
+        requires { IsCellHome self.now.layout e.index C.NUMBER }
         ensures { option_map C.words result ≡ words_of (cell_of self.now.state.slots e C.NUMBER) }
     {
         match self.slots.find(e, C::NUMBER) {
@@ -633,9 +641,9 @@ impl World {
         self.slots.has(e, kind.number())
     }
 
-    /// The stamps of a component of an entity that lives.
+    /// The stamps of a component of an entity that lives: of the columns that of the kind has to be at home in its archetype.
     pub fn stamp(&self, e: Entity, kind: Kind) -> Option<Stamp>
-        requires { AreAllHome self.now.layout }
+        requires { IsCellHome self.now.layout e.index (kind_number kind) }
         ensures { result ≡ option_map stamp_of (cell_of self.now.state.slots e (kind_number kind)) }
     {
         match self.slots.find(e, kind.number()) {
@@ -685,9 +693,10 @@ impl World {
         }
     }
 
-    /// Lists the components of an index, in rising kinds, in the room of a list: none unless an entity of it lives.
+    /// Lists the components of an index, in rising kinds, in the room of a list: none unless an entity of it lives. The columns of its
+    /// archetype have to be at home.
     pub fn components(&self, index: u32, components: &mut Components) -> Result<(), AllocError>
-        requires { AreAllHome self.now.layout }
+        requires { IsRowHome self.now.layout index }
         ensures { OnOk result (map component_of components.new.items
             ≡ row_at self.now.state.slots index) }
     {

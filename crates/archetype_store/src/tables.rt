@@ -1,7 +1,7 @@
 // The tables of archetypes, and what is done in them to the row of one entity.
 
-ghost use Rattle.std.specs.Prelude.{◌≡◌, ◌≢◌, ◌==◌, ◌<◌, ◌+◌, ◌-◌, ◌++◌, ◌∷◌, [], length, map, option_map, None, Some, IsSome, IfSome, IfOk, OnOk, OnErr, slice_get, slice_set};
-ghost use Rattle.std.specs.List.{list_any, AllByRecursion};
+ghost use Rattle.std.specs.Prelude.{◌≡◌, ◌≢◌, ◌==◌, ◌<◌, ◌+◌, ◌-◌, ◌++◌, ◌∷◌, [], true, length, map, option_map, None, Some, IsSome, IfSome, IfOk, OnOk, OnErr, slice_get, slice_set};
+ghost use Rattle.std.specs.List.{list_all, list_any, AllByRecursion};
 ghost use Rattle.column_store.specs.Order.{AreApart};
 ghost use Rattle.column_store.specs.RowOrder.{OrdersRows};
 ghost use Rattle.column_store.specs.Swapped.{swap_removed};
@@ -12,12 +12,12 @@ ghost use Rattle.model.specs.state.Rows.{cell_at};
 ghost use Rattle.model.specs.shown.Overlay.{row_after};
 ghost use Rattle.column_store.specs.Cells.{stamped_number};
 ghost use Rattle.column_store.specs.Kinds.{AreBelow};
-ghost use Rattle.column_store.specs.Table.{empty_table};
+ghost use Rattle.column_store.specs.Table.{empty_table, is_home, is_not_away, standing_of};
 ghost use Rattle.archetype_store.specs.Row.{component_of, only};
 ghost use Rattle.archetype_store.specs.Layout.{layout_of};
 ghost use Rattle.archetype_store.specs.View.{kinds_seen, entities_seen};
 ghost use Rattle.archetype_store.specs.TableIndex.{IsFound};
-ghost use Rattle.archetype_store.specs.Tables.{table_at, kinds_at, held_at, room_at, with_room, entities_at, entity_in_row, shape_of, row_or_none, AreShaped, AreUnlike, AreHome, AreOwned, IsHeldNow, IsGrown, IsOneTable};
+ghost use Rattle.archetype_store.specs.Tables.{table_at, kinds_at, held_at, room_at, with_room, entities_at, entity_in_row, shape_of, row_or_none, AreShaped, AreUnlike, AreOwned, IsHeldNow, IsGrown, IsOneTable};
 
 use crate::table_index::{TableIndex, word_of};
 use column_store::{Components, RowOrder, StampedValue, Table};
@@ -139,7 +139,7 @@ pub(crate) fn find_at(
 ) -> Option<StampedValue>
     requires there { IsSome (entity_in_row tables.now table row) }
     requires shaped { AreShaped tables.now }
-    requires home { AreHome tables.now }
+    requires home { is_not_away (standing_of (table_at tables.now table) number) ≡ true }
     ensures cell { (e : Entity) → entity_in_row tables.now table row ≡ Some e
         → option_map (λ s. (component_of s).cell) result
         ≡ cell_at (row_or_none (held_at tables.now table e)) number }
@@ -174,7 +174,7 @@ pub(crate) fn components_at(
     components: &mut Components,
 ) -> Result<(), AllocError>
     requires there { IsSome (entity_in_row tables.now table row) }
-    requires home { AreHome tables.now }
+    requires home { list_all is_home (table_at tables.now table).standings ≡ true }
     ensures row { OnOk result ((e : Entity) → entity_in_row tables.now table row ≡ Some e
         → held_at tables.now table e ≡ Some (map component_of components.new.items)) }
     ensures kinds { OnOk result (map stamped_number components.new.items

@@ -23,6 +23,7 @@ pub(crate) fn fill_kept(change: &mut EntityChange, world: &World) -> Result<(), 
         ≡ row_at world.now.state.slots change.old.entity.index) }
 {
     let index = change.entity.index;
+    world.prove_home();
     match &mut change.fate {
         Fate::Lives(components) => world.components(index, components),
         Fate::Dies => unreachable!(),

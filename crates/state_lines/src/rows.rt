@@ -26,6 +26,7 @@ pub fn line_of_entity(alloc: Global, world: &World, entity: Entity) -> Result<St
     ensures { IfOk result (λ text. string_bytes text ≡ entity_lines entity world.now.state.slots) }
 {
     let mut text = String::new(alloc);
+    world.prove_home();
     if world.lives(entity) {
         let mut components = Components::new(alloc);
         world.components(entity.index, &mut components)?;
@@ -74,6 +75,7 @@ fn push_row(
         ++ line_of_row (map term_of terms.now) entity
         (row_at world.now.state.slots entity.index)) }
 {
+    world.prove_home();
     world.components(entity.index, components)?;
     write!(text, "{entity}")?;
     push_fetched(text, terms, components)?;

@@ -92,6 +92,7 @@ fn push_slot(alloc: Global, text: &mut String, index: u32, world: &World) -> Res
     ensures { OnOk result (string_bytes text.new
         ≡ string_bytes text.old ++ slot_line index (slot_at world.now.state.slots index)) }
 {
+    world.prove_home();
     let slot = world.slot_at(index);
     if slot.is_living() {
         let mut components = Components::new(alloc);

@@ -24,6 +24,7 @@ pub fn push_slots(
     ensures { OnOk result (string_bytes text.new
         ≡ string_bytes text.old ++ slot_lines form 0 world.now.state.slots) }
 {
+    world.prove_home();
     let mut components = Components::new(alloc);
     for index in 0..world.slot_count() {
         world.components(index, &mut components)?;

@@ -7,7 +7,7 @@ ghost use Rattle.kinds.specs.Kind.{kind_number};
 ghost use Rattle.archetype_store.specs.Layout.{archetype_at, column_home, AreAllHome};
 ghost use Rattle.query_plan.specs.Picks.{pick_seen};
 
-use crate::tests::worlds::{FIRST, put, world_of_one};
+use crate::tests::worlds::{FIRST, component_of, put, world_of_one};
 use archetype_store::World;
 use archetype_store::store::{ColumnAt, TakenColumn};
 use change_ticks::Clock;
@@ -27,7 +27,8 @@ const HEALTH: Health = Health { v: 3 };
 fn is_untouched(world: &World) -> bool
     requires { AreAllHome world.now.layout }
 {
-    world.get::<Health>(FIRST) == Some(HEALTH) && world.get::<Score>(FIRST) == None
+    component_of::<Health>(world, FIRST) == Some(HEALTH)
+        && component_of::<Score>(world, FIRST) == None
 }
 
 // The commands that give the first entity a score and take its health.
@@ -45,10 +46,10 @@ pub(crate) fn inserted(alloc: Global) -> Option<bool> {
     let mut world = world_of_one(alloc, Clock::at(1))?;
     let mut is_kept = true;
     if world.insert(FIRST, HEALTH, 1).is_err() {
-        is_kept = world.lives(FIRST) && world.get::<Health>(FIRST) == None;
+        is_kept = world.lives(FIRST) && component_of::<Health>(&world, FIRST) == None;
         put(&mut world, HEALTH)?;
     }
-    Some(is_kept && world.get::<Health>(FIRST) == Some(HEALTH))
+    Some(is_kept && component_of::<Health>(&world, FIRST) == Some(HEALTH))
 }
 
 /// Commands that are refused leave the world as it was, and once more done they change it.
@@ -61,8 +62,8 @@ pub(crate) fn applied(alloc: Global) -> Option<bool> {
         is_kept = is_untouched(&world);
         apply(alloc, &mut world, &buffers, &[0], 1).ok()?;
     }
-    let is_traded = world.get::<Health>(FIRST) == None
-        && world.get::<Score>(FIRST) == Some(Score { v: 4 });
+    let is_traded = component_of::<Health>(&world, FIRST) == None
+        && component_of::<Score>(&world, FIRST) == Some(Score { v: 4 });
     Some(is_kept && is_traded)
 }
 

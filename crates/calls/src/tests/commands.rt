@@ -6,7 +6,7 @@ ghost use Rattle.archetype_store.specs.Layout.{AreAllHome};
 use crate::tests::bodies::TestBody;
 use crate::tests::engines::{Systems, TestEngine, commanding};
 use crate::tests::runs::Way;
-use crate::tests::worlds::{FIRST, empty_world, put, world_of_one};
+use crate::tests::worlds::{FIRST, component_of, empty_world, put, world_of_one};
 use archetype_store::World;
 use body::State;
 use change_ticks::Clock;
@@ -43,7 +43,7 @@ pub(crate) fn scoring(alloc: Global) -> Option<TestEngine> {
 
 // The score of an entity.
 fn score(engine: &Engine<TestBody>, entity: Entity) -> Option<Score> {
-    engine.state().world().get::<Score>(entity)
+    component_of::<Score>(engine.state().world(), entity)
 }
 
 /// Whether the first entity has this score.

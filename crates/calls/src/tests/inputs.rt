@@ -5,7 +5,7 @@ ghost use Rattle.std.specs.Prelude.{};
 use crate::tests::engines::TestEngine;
 use crate::tests::moving::{moving, position};
 use crate::tests::runs::Way;
-use crate::tests::worlds::FIRST;
+use crate::tests::worlds::{FIRST, component_of};
 use body::{Input, State};
 use change_ticks::Clock;
 use change_ticks::clock::LAST_TICK;
@@ -84,7 +84,7 @@ impl Host {
 
     // The health of the second entity.
     fn health(&self) -> Option<Health> {
-        self.engine.state().world().get::<Health>(SECOND)
+        component_of::<Health>(self.engine.state().world(), SECOND)
     }
 }
 

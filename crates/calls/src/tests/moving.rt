@@ -7,7 +7,7 @@ use crate::tests::bodies::TestBody;
 use crate::tests::engines::{Systems, TestEngine, made, params, script};
 use crate::tests::gates::{Rule, TestGate};
 use crate::tests::runs::{ONCE, Plan, Way, run_on_threads};
-use crate::tests::worlds::{FIRST, put, world_of_one};
+use crate::tests::worlds::{FIRST, component_of, put, world_of_one};
 use access_set::Params;
 use archetype_store::World;
 use body::{Body, State};
@@ -50,13 +50,14 @@ pub(crate) fn moving(alloc: Global, clock: Clock) -> Option<TestEngine> {
 fn stamp_of(world: &World, kind: Kind) -> Option<(Tick, Tick)>
     requires { AreAllHome world.now.layout }
 {
+    world.prove_home();
     let stamp = world.stamp(FIRST, kind)?;
     Some((stamp.added, stamp.changed))
 }
 
 /// The position of the first entity.
 pub(crate) fn position(state: &State) -> Option<Position> {
-    state.world().get::<Position>(FIRST)
+    component_of::<Position>(state.world(), FIRST)
 }
 
 /// After three runs from tick 1 the position is 3 and -6 since tick 9, the velocity as it was loaded, and the clock at tick 10.

@@ -6,7 +6,7 @@ use crate::tests::engines::{Systems, TestEngine, commanding, params};
 use crate::tests::gates::{Rule, TestGate};
 use crate::tests::moving::{moving, position};
 use crate::tests::runs::{ONCE, Plan, Way, run_on_threads};
-use crate::tests::worlds::empty_world;
+use crate::tests::worlds::{component_of, empty_world};
 use body::State;
 use change_ticks::Clock;
 use engine::RunFault;
@@ -59,7 +59,7 @@ fn have_seven(state: &State, ids: &[(u32, u32)]) -> bool {
         };
         have = have
             && state.world().next_living(next) == Some(entity)
-            && state.world().get::<Score>(entity) == Some(Score { v: 7 });
+            && component_of::<Score>(state.world(), entity) == Some(Score { v: 7 });
         next = index.saturating_add(1);
     }
     have && state.world().next_living(next) == None

@@ -4,7 +4,9 @@ ghost use Rattle.std.specs.Prelude.{};
 ghost use Rattle.archetype_store.specs.Layout.{AreAllHome};
 
 use crate::tests::engines::{built_of, params};
-use crate::tests::worlds::{FIRST, empty_world, put, settle_three, settle_used, world_of_one};
+use crate::tests::worlds::{
+    FIRST, component_of, empty_world, put, settle_three, settle_used, world_of_one,
+};
 use access_set::Params;
 use access_set::conflict::conflicts;
 use archetype_store::{StoreFault, World};
@@ -38,7 +40,7 @@ fn is_removed(world: &mut World) -> Option<bool>
 {
     let is_there = world.has(FIRST, Kind::Health) && world.next_living(0) == Some(FIRST);
     world.remove(FIRST, Kind::Health).ok()?;
-    Some(is_there && world.lives(FIRST) && world.get::<Health>(FIRST) == None)
+    Some(is_there && world.lives(FIRST) && component_of::<Health>(world, FIRST) == None)
 }
 
 // Whether the first entity has no component to be removed once it is despawned.

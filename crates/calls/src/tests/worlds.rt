@@ -23,6 +23,14 @@ const SECOND: Entity = Entity {
     generation: 1,
 };
 
+/// The component of a kind of an entity, where all columns are at home.
+pub(crate) fn component_of<C: Component>(world: &World, e: Entity) -> Option<C>
+    requires { AreAllHome world.now.layout }
+{
+    world.prove_home();
+    world.get::<C>(e)
+}
+
 /// A world at a clock in which nothing lives.
 pub(crate) fn empty_world(alloc: Global, clock: Clock) -> Option<Box<World>>
     ensures clock { IfSome result (λ world. 1 ≤ world.value.state.clock) }

@@ -6,7 +6,6 @@ use Rattle.column_store.specs.Order.{AreApart}
 use Rattle.column_store.specs.Table.{TableRow, TableValue, empty_table, is_home}
 use Rattle.archetype_store.specs.Tables.{table_at, held_in, entity_in_row}
 use Rattle.archetype_store.proofs.Held.{in_row_within, row_within, some_is, components_held, on_both}
-use Rattle.archetype_store.proofs.Standings.{home_at}
 use Rattle.archetype_store.proofs.tables.components_at.Goals as goal
 
 pub read-requires-clause-within : goal.read-requires-clause-within
@@ -24,7 +23,7 @@ read-requires-clause-home c =
     let there = c.index-tables-table.result in
     let within = in_row_within tables c.args.table c.args.row c.requires.there in
     let is : there ≡ table_at tables c.args.table = c.index-tables-table.is ∙ get_or_default tables c.args.table there (empty_table []) within in
-    ap (λ (t : TableValue). list_all is_home t.standings) is ∙ home_at tables c.args.table within c.requires.home
+    ap (λ (t : TableValue). list_all is_home t.standings) is ∙ c.requires.home
 
 pub returns-clause-row : goal.returns-clause-row
 returns-clause-row c =

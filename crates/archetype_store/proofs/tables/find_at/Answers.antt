@@ -7,7 +7,6 @@ use Rattle.column_store.specs.Table.{TableRow, TableValue, empty_table, is_not_a
 use Rattle.archetype_store.specs.Layout.{IsShape}
 use Rattle.archetype_store.specs.Tables.{table_at, held_in, row_or_none, entity_in_row}
 use Rattle.archetype_store.proofs.Held.{in_row_within, row_within, some_is, shape_at, cell_held}
-use Rattle.archetype_store.proofs.Standings.{not_away_at}
 use Rattle.archetype_store.proofs.tables.find_at.Goals as goal
 
 pub find-requires-clause-within : goal.find-requires-clause-within
@@ -25,7 +24,7 @@ find-requires-clause-home c =
     let there = c.index-tables-table.result in
     let within = in_row_within tables c.args.table c.args.row c.requires.there in
     let is : there ≡ table_at tables c.args.table = c.index-tables-table.is ∙ get_or_default tables c.args.table there (empty_table []) within in
-    ap (λ (t : TableValue). is_not_away (standing_of t c.args.number)) is ∙ not_away_at tables c.args.table c.args.number within c.requires.home
+    ap (λ (t : TableValue). is_not_away (standing_of t c.args.number)) is ∙ c.requires.home
 
 pub returns-clause-cell : goal.returns-clause-cell
 returns-clause-cell c =

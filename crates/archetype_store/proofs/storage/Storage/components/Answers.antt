@@ -1,24 +1,32 @@
-use Rattle.std.proofs.Common.{◌≡◌, is_some, refl, arith, Some, None, map, sym, ap, ◌∙◌}
+use Rattle.std.proofs.Common.{◌≡◌, List, is_some, refl, arith, Some, None, map, sym, ap, ◌∙◌}
 use Rattle.std.proofs.lemmas.Result.{on_ok_weaker}
 use Rattle.archetype_store.specs.Row.{component_of}
 use Rattle.archetype_store.specs.Tables.{row_or_none}
 use Rattle.archetype_store.specs.Storage.{StorageValue, row_of, place_of, row_in}
 use Rattle.archetype_store.proofs.Laid.{row_seen}
 use Rattle.std.proofs.Common.{subst}
-use Rattle.archetype_store.specs.Layout.{AreAllHome}
-use Rattle.archetype_store.specs.Tables.{AreHome}
-use Rattle.archetype_store.proofs.Standings.{home_tables}
+use Rattle.std.specs.List.{list_all}
+use Rattle.column_store.specs.Table.{TableValue, is_home}
+use Rattle.archetype_store.specs.Layout.{IsRowHome}
+use Rattle.archetype_store.proofs.RowsHome.{row_home}
 use Rattle.std.proofs.lemmas.List.{get_or_read}
 use Rattle.model.specs.declared.entities.Entity.{Entity}
 use Rattle.archetype_store.specs.RowNumbers.{number_of_row}
-use Rattle.archetype_store.specs.Tables.{entity_in_row}
+use Rattle.archetype_store.specs.Tables.{entity_in_row, table_at}
 use Rattle.archetype_store.proofs.Known.{row_there, number_within}
 use Rattle.archetype_store.proofs.storage.Storage.components.Goals as goal
 
 pub components_at-requires-clause-home : goal.components_at-requires-clause-home
 components_at-requires-clause-home c =
-    subst AreHome (sym c.deref-in-Some.ensures.value)
-    (home_tables c.self.inside.tables.items c.self.invariant.stored.bare (subst (λ (v : StorageValue). AreAllHome v.layout) (sym c.self.view_is) c.requires))
+    let tables = c.self.inside.tables.items in
+    let places = c.self.inside.places.items in
+    let numbers = c.self.inside.row_numbers.items in
+    let e : Entity = record { index = c.args.index; generation = c.in-Some.place.generation } in
+    let at : place_of places c.args.index ≡ Some c.in-Some.place = rw c.deref.ensures.value at (sym c.place_at.ensures ∙ c.in-Some.is) in
+    let there = row_there tables places numbers c.self.invariant.stored.whole c.self.invariant.known e c.in-Some.place at refl in
+    ap (λ (ts : List TableValue). list_all is_home (table_at ts c.in-Some.place.table).standings) c.deref-in-Some.ensures.value
+    ∙ row_home tables c.in-Some.place.table (number_of_row numbers c.args.index) e there
+    (subst (λ (v : StorageValue). IsRowHome v.layout c.args.index) (sym c.self.view_is) c.requires)
 
 pub returns-in-None : goal.returns-in-None
 returns-in-None c =
