@@ -13,7 +13,7 @@ use schedule_builder::Built;
 
 /// Refuses bodies and a state that are not those of a schedule: `Count` where there isn't a body and a memory for each system and a memory for
 /// each condition, each memory with a cursor for each event reader, else `Misfit` for the least system whose body doesn't fit its parameters.
-pub(crate) fn check_parts<B: Body>(
+pub fn check_parts<B: Body>(
     built: &Built,
     bodies: &[B],
     state: &State,

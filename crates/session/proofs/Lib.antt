@@ -13,3 +13,5 @@ mod NamedFiles
 mod LoadedTexts
 mod LoadReplies
 mod LoadTurns
+mod Retaken
+mod Noted

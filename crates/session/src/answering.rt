@@ -6,11 +6,12 @@ ghost use Rattle.body.specs.Inputs.{input_of};
 ghost use Rattle.requests.specs.Asked.{asked_of};
 ghost use Rattle.requests.specs.Asked.{Asked as asked};
 ghost use Rattle.session.specs.Answers.{IsAnswer, lines_of_input};
+ghost use Rattle.session.specs.Entries.{AreRunsOf, HaveText};
 ghost use Rattle.session.specs.Live.{clock_in, state_in};
 ghost use Rattle.session.specs.Looks.{is_look, seen_by};
 ghost use Rattle.session.specs.Replies.{shown_text};
 
-use crate::reply::{Refusal, Reply, Shown};
+use crate::reply::{Answered, Refusal, Reply, Shown};
 use crate::session::Session;
 use body::{Body, Input, State};
 use engine::{Crew, InputFault, RunFault, SetFault};
@@ -25,31 +26,38 @@ use std::alloc::{AllocError, Global};
 use worker_pool::Mode;
 
 impl<B: Body> Session<B> {
-    /// Answers a request, its runs in the mode, by a crew whose workers stand wherever the mode has threads. Where the state is lost, as it is once
-    /// a run failed, only a greeting, going back, forgetting and quitting are answered.
+    /// Answers a request, its runs in the mode, by a crew whose workers stand wherever the mode has threads, and gives their traces. Where the state
+    /// is lost, as it is once a run failed, only a greeting, going back, forgetting and quitting are answered.
     pub fn answer<'s, M: Mode<'s>>(
         &mut self,
         alloc: Global,
         request: &Request<'_>,
         mode: &M,
         crew: &mut Crew<B>,
-    ) -> Reply
+    ) -> Answered
     where
         B: 's,
-        ensures { IsAnswer B.meaning (M.has_scope mode.now) (M.width mode.now) self.old
-            (asked_of request.now) result self.new }
+        ensures reply { IsAnswer B.meaning (M.has_scope mode.now) (M.width mode.now) self.old
+            (asked_of request.now) result.reply self.new }
+        ensures runs { AreRunsOf B.meaning (M.width mode.now) self.old (asked_of request.now)
+            result.reply result.runs.items self.new }
+        ensures text { HaveText result.runs.items }
     {
-        match request {
+        let reply = match request {
             Request::Hello => self.greet(alloc),
             Request::Back(name) => self.go_back(alloc, name),
             Request::Forget(name) => self.forget(name),
             Request::Quit => self.done(Shown::Nothing),
             _ if self.engine.is_spoiled() => Reply::Refused(Refusal::Lost),
-            Request::Run(times) => self.run(alloc, *times, mode, crew),
+            Request::Run(times) => return self.run(alloc, *times, mode, crew),
             Request::Put(input) => self.put(alloc, input),
             Request::Mark(name) => self.mark(alloc, name),
             Request::Save => self.save(alloc),
             look => self.look(alloc, look),
+        };
+        Answered {
+            reply,
+            runs: Vec::new(alloc),
         }
     }
 
@@ -82,17 +90,26 @@ impl<B: Body> Session<B> {
         times: u32,
         mode: &M,
         crew: &mut Crew<B>,
-    ) -> Reply
+    ) -> Answered
     where
         B: 's,
         requires { self.old.engine.spoiled ≡ false }
-        ensures { IsAnswer B.meaning (M.has_scope mode.now) (M.width mode.now) self.old
-            (asked.Run times) result self.new }
+        ensures reply { IsAnswer B.meaning (M.has_scope mode.now) (M.width mode.now) self.old
+            (asked.Run times) result.reply self.new }
+        ensures runs { AreRunsOf B.meaning (M.width mode.now) self.old (asked.Run times)
+            result.reply result.runs.items self.new }
+        ensures text { HaveText result.runs.items }
     {
         match self.engine.run_by(alloc, times, &mode.keeping(), crew) {
-            Ok(_traces) => self.done(Shown::Nothing),
+            Ok(runs) => Answered {
+                reply: self.done(Shown::Nothing),
+                runs,
+            },
             Err(RunFault::Spoiled) => unreachable!(),
-            Err(fault) => Reply::Lost(fault),
+            Err(fault) => Answered {
+                reply: Reply::Lost(fault),
+                runs: Vec::new(alloc),
+            },
         }
     }
 

@@ -96,7 +96,7 @@ fn with_line(line: &[u8], body: &mut Vec<u8>) -> Follows
 }
 
 // Adds a line with its end.
-fn add_line(line: &[u8], body: &mut Vec<u8>) -> Result<(), AllocError>
+pub(crate) fn add_line(line: &[u8], body: &mut Vec<u8>) -> Result<(), AllocError>
     ensures { OnOk result (body.new.items ≡ body.old.items ++ ended line.now) }
 {
     body.extend_from_slice(line)?;

@@ -5,6 +5,7 @@ ghost use Rattle.session.specs.Replies.{line_count};
 
 use engine::RunFault;
 use entity_table::Entity;
+use executor_core::Trace;
 use std::fmt;
 
 /// Why a request is refused. Nothing has changed then.
@@ -122,6 +123,15 @@ pub enum Reply {
     Failed,
     /// A run failed, and the state is lost.
     Lost(RunFault),
+}
+
+/// The reply to a request, and the traces of the runs that were done for it.
+#[derive(Drop)]
+pub struct Answered {
+    /// The reply.
+    pub reply: Reply,
+    /// A trace for each run.
+    pub runs: Vec<Trace>,
 }
 
 impl fmt::Display for Reply {
