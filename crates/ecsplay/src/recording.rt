@@ -1,9 +1,13 @@
 // Records of sessions: how one is begun, and what is told of one that is taken again.
 
+ghost use Rattle.std.specs.Prelude.{◌≤◌, length, IfErr, IfOk};
+ghost use Rattle.std.specs.Io.KnownBytes.{Appends};
+ghost use Rattle.ecsplay.specs.Retaken.{HasResumed, IsReplayedWhole, IsReported, begun_text};
+ghost use Rattle.streams.specs.Writing.{AppendsFront};
+
 use program::Fault;
-use program::loading::{Loaded, load};
+use program::hosting::scripts_of;
 use program::serve::tell;
-use program_file::{ProgramFile, document_of};
 use script::ScriptBody;
 use session::replaying::{Taken, head_of_record, replay_record};
 use session::{EntryFault, RecordFault, Session};
@@ -98,8 +102,12 @@ pub fn resume<R: Read, O: Write>(
     file: &[u8],
     record: &mut R,
     out: &mut O,
-) -> Result<Vec<u8>, Told> {
-    let mut bodies = bodies_of(alloc, file)?;
+) -> Result<Vec<u8>, Told>
+    requires { length file.now ≤ 1048576 }
+    ensures { IfOk result (λ front. HasResumed file.now session.old session.new (R.remaining
+        record.old) front.items (O.contents out.old, O.contents out.new)) }
+{
+    let mut bodies = scripts_of(alloc, file)?;
     let mut bytes = read_whole(alloc, record, MOST_RECORD_BYTES)?;
     let Taken { rest, .. } = replay_record(
         alloc,
@@ -113,21 +121,18 @@ pub fn resume<R: Read, O: Write>(
     Ok(bytes)
 }
 
-// The scripts of a program file.
-fn bodies_of(alloc: Global, file: &[u8]) -> Result<Vec<ScriptBody>, Fault> {
-    let document = document_of(alloc, file)?;
-    let tables = ProgramFile::read(alloc, &document)?;
-    let Loaded { bodies, .. } = load(alloc, tables)?;
-    Ok(bodies)
-}
-
 /// Begins a record of a session: with its first line, or with a record from whose end the session goes on.
 pub fn begin<J: Write>(
     alloc: Global,
     session: &Session<ScriptBody>,
     before: &[u8],
     journal: &mut J,
-) -> Result<(), Fault> {
+) -> Result<(), Fault>
+    ensures ok { IfOk result (λ done. Appends (J.contents journal.old) (J.contents journal.new)
+        (begun_text session.now.file before.now)) }
+    ensures err { IfErr result (λ fault. AppendsFront (J.contents journal.old) (J.contents
+        journal.new) (begun_text session.now.file before.now)) }
+{
     if before.is_empty() {
         let head = head_of_record(alloc, session)?;
         write_whole(journal, head.as_str())?;
@@ -145,8 +150,12 @@ pub fn replay<R: Read, O: Write>(
     file: &[u8],
     record: &mut R,
     out: &mut O,
-) -> Result<(), Told> {
-    let mut bodies = bodies_of(alloc, file)?;
+) -> Result<(), Told>
+    requires { length file.now ≤ 1048576 }
+    ensures { IfOk result (λ done. IsReplayedWhole file.now session.old session.new (R.remaining
+        record.old) (O.contents out.old, O.contents out.new)) }
+{
+    let mut bodies = scripts_of(alloc, file)?;
     let bytes = read_whole(alloc, record, MOST_RECORD_BYTES)?;
     let taken = replay_record(alloc, session, bodies.as_mut_slice(), bytes.as_slice(), out)?;
     if !taken.rest.is_empty() {
@@ -162,7 +171,9 @@ pub fn replay<R: Read, O: Write>(
 }
 
 /// Reports why a record is not taken again, in one line, and gives the exit status.
-pub fn report<E: Write>(alloc: Global, faults: &mut E, told: &Told) -> u8 {
+pub fn report<E: Write>(alloc: Global, faults: &mut E, told: &Told) -> u8
+    ensures { IsReported told.now result (E.contents faults.old, E.contents faults.new) }
+{
     match told {
         Told::Fault(fault) => tell(alloc, faults, fault),
         Told::TooLong | Told::Refused(_) => match told_line(alloc, told) {

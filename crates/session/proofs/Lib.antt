@@ -15,3 +15,5 @@ mod LoadReplies
 mod LoadTurns
 mod Retaken
 mod Noted
+mod Answering
+mod Replayed

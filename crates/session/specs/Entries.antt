@@ -24,6 +24,11 @@ abbrev pub AreRunsOf : {B : Type 0} → (B → Params → BodyMeaning) → ℕ �
 AreRunsOf meaning width old (Run times) (Done clock shown) traces new = RunsAs width old.engine.schedule (meant_in meaning old) times (state_in old) (state_in new) traces
 AreRunsOf meaning width old asked reply traces new = traces ≡ []
 
+-- whether a request asks for runs
+abbrev pub is_run : Asked → Bool
+is_run (Run times) = true
+is_run _ = false
+
 -- ---- one entry
 
 -- whether what was asked for is done

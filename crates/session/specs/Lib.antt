@@ -10,3 +10,4 @@ pub mod Lockstep
 pub mod Saved
 pub mod Body
 pub mod Records
+pub mod Replayed

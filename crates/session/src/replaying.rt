@@ -4,8 +4,6 @@ ghost use Rattle.std.specs.Prelude.{◌≡◌, true, false, length, map, string_
 ghost use Rattle.engine.specs.Meanings.{AreFit, Suits, meanings};
 ghost use Rattle.model.specs.sessions.Sessions.{AreReplayedRuns};
 ghost use Rattle.requests.specs.Asked.{Asked as asked};
-ghost use Rattle.requests.specs.Asked.{asked_of};
-ghost use Rattle.session.specs.Answers.{IsAnswer};
 ghost use Rattle.session.specs.Entries.{is_done};
 ghost use Rattle.session.specs.Records.{HasTakenFirst, IsRedone, IsTakenAgain, IsTakenAs, head_line};
 
@@ -15,8 +13,8 @@ use crate::record_fault::{EntryFault, RecordFault};
 use crate::reply::{Answered, Refusal, Reply, Shown};
 use crate::session::Session;
 use body::{Body, State};
+use engine::SetFault;
 use engine::fitting::check_parts;
-use engine::{Crew, SetFault};
 use executor_core::Trace;
 use requests::Request;
 use schedule_builder::Built;
@@ -25,7 +23,6 @@ use std::io::Write;
 use streams::writing::write_whole;
 use trace_checker::Checker;
 use trace_checker::replay::replay_by;
-use worker_pool::Single;
 
 /// How far a record was taken again.
 #[derive(Clone, Copy, PartialEq, Eq, Debug)]
@@ -153,7 +150,8 @@ fn take<B: Body>(
             if !traces.is_empty() {
                 return Err(EntryFault::Count);
             }
-            done(answer(alloc, session, request))
+            let Answered { reply, runs: _ } = session.answer_here(alloc, request);
+            done(reply)
         }
         Deed::Loads(load, text) => done(session.load(alloc, *load, text)),
     }
@@ -170,16 +168,6 @@ fn done(reply: Reply) -> Result<Reply, EntryFault>
         Reply::Lost(_) => Err(EntryFault::Unknown),
         done => Ok(done),
     }
-}
-
-// Answers a request, on this thread.
-fn answer<B: Body>(alloc: Global, session: &mut Session<B>, request: &Request<'_>) -> Reply
-    ensures { IsAnswer B.meaning false 1 session.old (asked_of request.now) result session.new }
-{
-    let mut crew = Crew::new();
-    let Answered { reply, runs: _ } = session.answer(alloc, request, &Single, &mut crew);
-    crew.end(&Single);
-    reply
 }
 
 impl<B: Body> Session<B> {

@@ -1,11 +1,12 @@
 // What is replied to a request.
 
-ghost use Rattle.std.specs.Prelude.{◌≡◌};
+ghost use Rattle.std.specs.Prelude.{◌≡◌, []};
 ghost use Rattle.session.specs.Replies.{line_count};
 
 use engine::RunFault;
 use entity_table::Entity;
 use executor_core::Trace;
+use std::alloc::Global;
 use std::fmt;
 
 /// Why a request is refused. Nothing has changed then.
@@ -132,6 +133,19 @@ pub struct Answered {
     pub reply: Reply,
     /// A trace for each run.
     pub runs: Vec<Trace>,
+}
+
+impl Answered {
+    // A reply behind which nothing was run.
+    pub(crate) fn still(alloc: Global, reply: Reply) -> Self
+        ensures reply { result.reply ≡ reply }
+        ensures none { result.runs.items ≡ [] }
+    {
+        Answered {
+            reply,
+            runs: Vec::new(alloc),
+        }
+    }
 }
 
 impl fmt::Display for Reply {
