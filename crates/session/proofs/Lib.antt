@@ -15,5 +15,5 @@ mod LoadReplies
 mod LoadTurns
 mod Retaken
 mod Noted
-mod Answering
+mod AnyMode
 mod Replayed

@@ -1,6 +1,6 @@
 -- A turn in which the lines that follow a `load` are read.
-use Rattle.std.proofs.Common.{◌≡◌, ℕ, Bool, List, [], ◌∷◌, ◌++◌, Option, Some, None, Result, Ok, Err, inr, subst}
-use Rattle.std.specs.Prelude.{IfSome, MatchOption}
+use Rattle.std.proofs.Common.{◌≡◌, ℕ, Bool, List, [], ◌∷◌, ◌++◌, Option, Some, None, Result, Ok, Err, true, inr, refl, ap₂, ◌∙◌, subst}
+use Rattle.std.specs.Prelude.{IfSome, MatchOption, OnOk}
 use Rattle.std.specs.Io.KnownBytes.{Consumes}
 use Rattle.std.proofs.KnownBytes.{Consumes-trans}
 use Rattle.model.specs.access.Access.{Params}
@@ -8,7 +8,12 @@ use Rattle.model.specs.shown.Outcome.{BodyMeaning}
 use Rattle.parsing.specs.Reads.{Reads, SpellsNone, SpellsOnly}
 use Rattle.requests.specs.Load.{IsLoad}
 use Rattle.requests.specs.declared.load.Load.{Load}
-use Rattle.session.specs.Body.{AreFewer, ended}
+use Rattle.session.specs.Body.{AreFewer, IsKnownAs, ended}
+use Rattle.session.specs.Entries.{is_done, load_entry, when_done}
+use Rattle.session.specs.declared.body_lines.Follows.{Follows}
+use Rattle.session.specs.declared.body_lines.Follows.TheVariants.{Whole}
+use Rattle.session.specs.declared.reply.Reply.{Reply}
+use Rattle.session.specs.declared.reply.Reply.TheVariants.{Done, Refused, Failed, Lost}
 use Rattle.session.specs.Live.{Live}
 use Rattle.session.specs.Played.{IsLeftOver, IsLoadTurn, IsTurn}
 use Rattle.session.specs.Plays.{IsNoLoad}
@@ -22,6 +27,18 @@ use Rattle.session.proofs.Noted.{load_noted, no_runs}
 pub read_line : (text line : List ℕ) (r : Option Load) → text ≡ line → Reads IsLoad text r → MatchOption r (IsNoLoad line) (SpellsOnly IsLoad line)
 read_line text line None same none = λ is. subst (SpellsNone IsLoad) same none
 read_line text line (Some load) same only = subst (λ l. SpellsOnly IsLoad l load) same only
+
+-- what holds where there is a value, where there is one
+pub ok_given : {T E : Type 0} (r : Result T E) (x : T) (P : Type 0) → r ≡ Ok x → OnOk r P → P
+ok_given r x P is h = subst (λ o. OnOk o P) is h
+
+-- the entry of lines that were loaded
+pub loaded_entry : (line text body entry now : List ℕ) (known : Follows) (reply : Reply) → (is_done reply ≡ true → known ≡ Whole) → IsKnownAs known text body → (known ≡ Whole → entry ≡ ended line) → now ≡ when_done reply (entry ++ body) →
+    now ≡ load_entry line text reply
+loaded_entry line text body entry now known (Done clock shown) done is begun same = same ∙ ap₂ (λ (a b : List ℕ). a ++ b) (begun (done refl)) (subst (λ (k : Follows). IsKnownAs k text body) (done refl) is)
+loaded_entry line text body entry now known (Refused why) done is begun same = same
+loaded_entry line text body entry now known Failed done is begun same = same
+loaded_entry line text body entry now known (Lost fault) done is begun same = same
 
 module _ {B : Type 0} (meaning : B → Params → BodyMeaning) (scope : Bool) (width : ℕ) (recorded : Bool) (entry : List ℕ) (old new : Live B) (before mid after : Option (List ℕ)) (line : List ℕ) (load : Load) (asks : SpellsOnly IsLoad line load)
     (read : Consumes before mid (ended line)) where

@@ -47,6 +47,7 @@ module _ {B : Type 0} (meaning : B → Params → BodyMeaning) (scope : Bool) (w
   entries_more : (old mid new : Live B) (lines : List Sent) (replies : List Reply) (line : Sent) (reply : Reply) (plays : Plays meaning scope width old lines replies mid) (is : IsExchange meaning scope width mid line reply false new)
       (entries : List (List ℕ)) (entry : List ℕ) → AreEntries meaning scope width old lines replies mid plays entries → IsEntry meaning width mid line reply entry new →
       AreEntries meaning scope width old (lines ++ line ∷ []) (replies ++ reply ∷ []) new (plays_more old mid new lines replies line reply plays is) (entries ++ entry ∷ [])
+  unfolding plays_more
   entries_more old mid new [] [] line reply plays is [] entry noted more = (subst (λ (l : Live B). IsEntry meaning width l line reply entry new) (sym plays) more, tt)
   entries_more old mid new [] [] line reply plays is (e ∷ entries) entry noted more = absurd noted
   entries_more old mid new [] (r ∷ replies) line reply plays is entries entry noted more = absurd plays

@@ -1,5 +1,6 @@
 -- What a session recorded leads another one to the same states.
-use Rattle.std.proofs.Common.{◌≡◌, ◌×◌, ◌⊎◌, ℕ, Bool, true, false, List, [], ◌∷◌, Option, Some, None, inl, inr, refl, sym, ap, ap₂, ◌∙◌, subst}
+use Rattle.std.proofs.Common.{◌≡◌, ◌⊎◌, ℕ, Bool, true, false, List, [], ◌∷◌, Option, Some, None, inl, inr, refl, sym, ap, ap₂, ◌∙◌, subst}
+use Rattle.std.proofs.lemmas.Bool.{false≢true}
 use Rattle.model.specs.access.Access.{Params}
 use Rattle.model.specs.runs.WideRuns.{AreWideRuns}
 use Rattle.model.specs.sessions.Inputs.{after_input}
@@ -13,7 +14,7 @@ use Rattle.engine.specs.EngineValue.{mended_with, with_state}
 use Rattle.engine.specs.declared.faults.RunFault.{RunFault}
 use Rattle.parsing.specs.Reads.{SpellsOnly}
 use Rattle.requests.specs.Asked.{Asked}
-use Rattle.requests.specs.Asked.Asked as asked
+use Rattle.requests.specs.Asked.{Asked as asked}
 use Rattle.requests.specs.Grammar.{IsRequest}
 use Rattle.requests.specs.declared.load.Load.{Load}
 use Rattle.session.specs.Answers.{HasLost, IsAnswer, IsDone, IsLostBy, Stays}
@@ -23,7 +24,7 @@ use Rattle.session.specs.Marks.{kept_at, with_mark, without}
 use Rattle.session.specs.Plays.{IsExchange, IsLoadReply, IsReplied, IsUnasked, Plays, Sent}
 use Rattle.session.specs.Plays.Sent.{Line, TooLong, Loads}
 use Rattle.session.specs.Records.{Act, AreTaken, Entry, HasRedone, HasRetaken, IsRedone, IsTaken}
-use Rattle.session.specs.Records.Act as act
+use Rattle.session.specs.Records.{Act as act}
 use Rattle.session.specs.Replayed.{AreNoted, AreSame, IsNotedAs, IsNotedLine, IsUnnoted, OneEntryIsReplayed, RecordsAreReplayed}
 use Rattle.session.specs.Replies.{reply_text, shown_text}
 use Rattle.session.specs.Saved.{IsLoadAnswer, IsSet}
@@ -131,8 +132,8 @@ module _ {B C : Type 0} (meaning : B → Params → BodyMeaning) (other_meaning 
     schedule = same.schedule ∙ sym h.stays.schedule;
     file = same.file ∙ sym h.stays.file;
     marks = same.marks ∙ sym h.stays.marks;
-    there = λ e. absurd (sym h.lost ∙ e);
-    states = λ e. absurd (sym h.lost ∙ e);
+    there = λ e. absurd (false≢true (sym e ∙ h.lost));
+    states = λ e. absurd (false≢true (sym e ∙ h.lost));
   }
   lost_same scope width asked.Hello fault one one' other h same = absurd h
   lost_same scope width (asked.Put put) fault one one' other h same = absurd h
@@ -152,11 +153,11 @@ module _ {B C : Type 0} (meaning : B → Params → BodyMeaning) (other_meaning 
   -- what is recorded of nothing changes nothing
   unrecorded_stays : (width : ℕ) (request : Asked) (shown : List ℕ) (one one' : Live B) → is_recorded request ≡ false → IsDone meaning width one request shown one' → one' ≡ one
   unrecorded_stays width asked.Hello shown one one' un h = h.1
-  unrecorded_stays width (asked.Run times) shown one one' un h = absurd un
-  unrecorded_stays width (asked.Put put) shown one one' un h = absurd un
-  unrecorded_stays width (asked.Mark name) shown one one' un h = absurd un
-  unrecorded_stays width (asked.Back name) shown one one' un h = absurd un
-  unrecorded_stays width (asked.Forget name) shown one one' un h = absurd un
+  unrecorded_stays width (asked.Run times) shown one one' un h = absurd (false≢true (sym un))
+  unrecorded_stays width (asked.Put put) shown one one' un h = absurd (false≢true (sym un))
+  unrecorded_stays width (asked.Mark name) shown one one' un h = absurd (false≢true (sym un))
+  unrecorded_stays width (asked.Back name) shown one one' un h = absurd (false≢true (sym un))
+  unrecorded_stays width (asked.Forget name) shown one one' un h = absurd (false≢true (sym un))
   unrecorded_stays width asked.Quit shown one one' un h = h.1
   unrecorded_stays width asked.Save shown one one' un h = h.same
   unrecorded_stays width asked.World shown one one' un h = h.same
@@ -165,18 +166,18 @@ module _ {B C : Type 0} (meaning : B → Params → BodyMeaning) (other_meaning 
   unrecorded_stays width asked.Resources shown one one' un h = h.same
   unrecorded_stays width (asked.Events kind from) shown one one' un h = h.same
   unrecorded_stays width asked.Values shown one one' un h = h.same
-  unrecorded_stays width asked.Digest shown one one' un h = absurd un
+  unrecorded_stays width asked.Digest shown one one' un h = absurd (false≢true (sym un))
 
   answer_unnoted : (scope : Bool) (width : ℕ) (request : Asked) (reply : Reply) (one one' : Live B) (other : Live C) → (is_done reply ≡ false) ⊎ (is_recorded request ≡ false) → IsAnswer meaning scope width one request reply one' →
       AreSame one other → AreSame one' other
-  answer_unnoted scope width request (Done clock shown) one one' other (inl un) h same = absurd un
+  answer_unnoted scope width request (Done clock shown) one one' other (inl un) h same = absurd (false≢true (sym un))
   answer_unnoted scope width request (Done clock shown) one one' other (inr un) h same = still_same one one' other (unrecorded_stays width request (shown_text shown) one one' un h.1) same
   answer_unnoted scope width request (Refused why) one one' other un h same = still_same one one' other h.0 same
   answer_unnoted scope width request Failed one one' other un h same = still_same one one' other h.1 same
   answer_unnoted scope width request (Lost fault) one one' other un h same = lost_same scope width request fault one one' other h same
 
   set_unnoted : (state : State) (reply : Reply) (one one' : Live B) → is_done reply ≡ false → IsSet one state reply one' → one' ≡ one
-  set_unnoted state (Done clock shown) one one' un h = absurd un
+  set_unnoted state (Done clock shown) one one' un h = absurd (false≢true (sym un))
   set_unnoted state (Refused refusal.OtherMemories) one one' un h = h.0
   set_unnoted state Failed one one' un h = h
   set_unnoted state (Refused _) one one' un h = absurd h
@@ -184,7 +185,7 @@ module _ {B C : Type 0} (meaning : B → Params → BodyMeaning) (other_meaning 
 
   loaded_unnoted : (load : Load) (text : List ℕ) (reply : Reply) (one one' : Live B) → is_done reply ≡ false → IsLoadAnswer one load text reply one' → one' ≡ one
   loaded_unnoted load text Failed one one' un h = h
-  loaded_unnoted load text (Done clock shown) one one' un h = absurd un
+  loaded_unnoted load text (Done clock shown) one one' un h = absurd (false≢true (sym un))
   loaded_unnoted load text (Refused why) one one' un (inl h) = set_unnoted h.0 (Refused why) one one' un h.2
   loaded_unnoted load text (Refused why) one one' un (inr h) = h.3
   loaded_unnoted load text (Lost fault) one one' un (inl h) = set_unnoted h.0 (Lost fault) one one' un h.2
@@ -193,7 +194,7 @@ module _ {B C : Type 0} (meaning : B → Params → BodyMeaning) (other_meaning 
   load_unnoted : (load : Load) (text : List ℕ) (reply : Reply) (one one' : Live B) → is_done reply ≡ false → IsLoadReply one load text reply one' → one' ≡ one
   load_unnoted load text (Refused refusal.LongText) one one' un h = h.1
   load_unnoted load text (Refused why) one one' un h = loaded_unnoted load text (Refused why) one one' un h
-  load_unnoted load text (Done clock shown) one one' un h = absurd un
+  load_unnoted load text (Done clock shown) one one' un h = absurd (false≢true (sym un))
   load_unnoted load text Failed one one' un h = loaded_unnoted load text Failed one one' un h
   load_unnoted load text (Lost fault) one one' un h = loaded_unnoted load text (Lost fault) one one' un h
 
@@ -228,7 +229,7 @@ module _ {B C : Type 0} (meaning : B → Params → BodyMeaning) (other_meaning 
     both l m is other_is so = subst (λ (x : Live B). AreSame x other') (sym is) (subst (λ (x : Live C). AreSame l x) (sym other_is) so)
 
     -- the state that was kept, if any
-    kept_or : State → Option State → State
+    abbrev kept_or : State → Option State → State
     kept_or default (Some state) = state
     kept_or default None = default
 
@@ -254,31 +255,31 @@ module _ {B C : Type 0} (meaning : B → Params → BodyMeaning) (other_meaning 
         both (with_marks (without name one.marks) one) (with_marks (without name other.marks) other) h.2 g.1.2
         (record { schedule = same.schedule; file = same.file; marks = ap (without name) same.marks; there = same.there; states = same.states })
     entry_same asked.Digest traces clock shown (Done c s) h runs rec done g = both one other h.same g.1.same same
-    entry_same asked.Hello traces clock shown (Done c s) h runs rec done g = absurd rec
-    entry_same asked.World traces clock shown (Done c s) h runs rec done g = absurd rec
-    entry_same (asked.Entity id) traces clock shown (Done c s) h runs rec done g = absurd rec
-    entry_same (asked.Query since terms) traces clock shown (Done c s) h runs rec done g = absurd rec
-    entry_same asked.Resources traces clock shown (Done c s) h runs rec done g = absurd rec
-    entry_same (asked.Events kind from) traces clock shown (Done c s) h runs rec done g = absurd rec
-    entry_same asked.Values traces clock shown (Done c s) h runs rec done g = absurd rec
-    entry_same asked.Save traces clock shown (Done c s) h runs rec done g = absurd rec
-    entry_same asked.Quit traces clock shown (Done c s) h runs rec done g = absurd rec
-    entry_same request traces clock shown (Refused why) h runs rec done g = absurd done
-    entry_same request traces clock shown Failed h runs rec done g = absurd done
-    entry_same request traces clock shown (Lost fault) h runs rec done g = absurd done
+    entry_same asked.Hello traces clock shown (Done c s) h runs rec done g = absurd (false≢true rec)
+    entry_same asked.World traces clock shown (Done c s) h runs rec done g = absurd (false≢true rec)
+    entry_same (asked.Entity id) traces clock shown (Done c s) h runs rec done g = absurd (false≢true rec)
+    entry_same (asked.Query since terms) traces clock shown (Done c s) h runs rec done g = absurd (false≢true rec)
+    entry_same asked.Resources traces clock shown (Done c s) h runs rec done g = absurd (false≢true rec)
+    entry_same (asked.Events kind from) traces clock shown (Done c s) h runs rec done g = absurd (false≢true rec)
+    entry_same asked.Values traces clock shown (Done c s) h runs rec done g = absurd (false≢true rec)
+    entry_same asked.Save traces clock shown (Done c s) h runs rec done g = absurd (false≢true rec)
+    entry_same asked.Quit traces clock shown (Done c s) h runs rec done g = absurd (false≢true rec)
+    entry_same request traces clock shown (Refused why) h runs rec done g = absurd (false≢true done)
+    entry_same request traces clock shown Failed h runs rec done g = absurd (false≢true done)
+    entry_same request traces clock shown (Lost fault) h runs rec done g = absurd (false≢true done)
 
     -- of an answer that is known to be done
     answer_same : (scope : Bool) (request : Asked) (traces : List Recorded) (reply other_reply : Reply) → IsAnswer meaning scope width one request reply one' → AreRunsOf meaning width one request reply traces one' → is_done reply ≡ true →
         is_recorded request ≡ true → is_done other_reply ≡ true → IsRedone other_meaning (meant_in meaning one) other request traces other_reply other' → AreSame one' other'
     answer_same scope request traces (Done clock shown) other_reply h runs done rec other_done g = entry_same request traces clock shown other_reply h.1 runs rec other_done g
-    answer_same scope request traces (Refused why) other_reply h runs done rec other_done g = absurd done
-    answer_same scope request traces Failed other_reply h runs done rec other_done g = absurd done
-    answer_same scope request traces (Lost fault) other_reply h runs done rec other_done g = absurd done
+    answer_same scope request traces (Refused why) other_reply h runs done rec other_done g = absurd (false≢true done)
+    answer_same scope request traces Failed other_reply h runs done rec other_done g = absurd (false≢true done)
+    answer_same scope request traces (Lost fault) other_reply h runs done rec other_done g = absurd (false≢true done)
 
     unasked : (line : List ℕ) (reply : Reply) → IsUnasked line reply → is_done reply ≡ true → ⊥
     unasked line (Done clock shown) un done = un
-    unasked line (Refused why) un done = absurd done
-    unasked line Failed un done = absurd done
+    unasked line (Refused why) un done = false≢true done
+    unasked line Failed un done = false≢true done
     unasked line (Lost fault) un done = un
 
     act_same : (scope : Bool) (line : Sent) (reply other_reply : Reply) (last : Bool) (a : Act) (told : List ℕ) → IsExchange meaning scope width one line reply last one' →

@@ -1,6 +1,9 @@
 -- Records that are taken again, entry by entry.
-use Rattle.std.proofs.Common.{◌≡◌, ◌<◌, ℕ, ◌+◌, Bool, List, [], ◌∷◌, ◌++◌, length, take, get_or, Option, arith, length-append, refl, sym, ap, ◌∙◌, subst}
+use Rattle.std.proofs.Common.{◌≡◌, ◌<◌, ℕ, ◌+◌, Bool, false, true, not, nat_eq, List, [], ◌∷◌, ◌++◌, length, take, get_or, Option, arith, length-append, refl, sym, ap, ap₂, ◌∙◌, subst}
+use lib.Pointwise.{pointwise}
+use Rattle.std.specs.Cmp.Lexicographic.{same_text}
 use Rattle.std.specs.Io.KnownBytes.{Appends}
+use Rattle.std.proofs.lemmas.Bool.{false≢true}
 use Rattle.std.proofs.KnownBytes.{Appends-nil, Appends-trans}
 use Rattle.std.proofs.lemmas.Grind.{flat_map-append}
 use Rattle.std.proofs.lemmas.List.{append_assoc, append-nil}
@@ -11,21 +14,31 @@ use Rattle.model.specs.sessions.Sessions.{AreReplayedRuns}
 use Rattle.model.specs.state.State.{State}
 use Rattle.model.specs.steps.Schedule.{Recorded, Schedule, recording}
 use Rattle.model.proofs.lists.Turns.{seen_next}
+use Rattle.engine.specs.EngineValue.{EngineValue}
 use Rattle.engine.specs.Meanings.{AreFit, Suits}
-use Rattle.requests.specs.Asked.{asked_of}
+use Rattle.requests.specs.Asked.{Asked, asked_of}
 use Rattle.requests.specs.declared.load.Load.{Load}
 use Rattle.trace_checker.specs.Grammar.{trace_text}
 use Rattle.session.specs.Body.{ended}
 use Rattle.session.specs.Entries as entries
 use Rattle.session.specs.Live.{Live}
 use Rattle.session.specs.Plays.{told_text}
-use Rattle.session.specs.Records.{Act, AreTaken, Entry, HasRedone, HasTakenFirst, IsDoneAgain, IsReadAs, IsTaken, IsTakenAgain, IsTakenAs, entries_text, entry_text, head_line}
+use Rattle.session.specs.Records.{Act, AreTaken, Entry, HasRedone, HasTakenAs, HasTakenFirst, IsDoneAgain, IsReadAs, IsReadEntry, IsTaken, IsTakenAgain, IsTakenAs, entries_text, entry_text, head_line}
 use Rattle.session.specs.Records.Act.{Does, Loads}
 use Rattle.session.specs.Replies.{reply_text}
 use Rattle.session.specs.Saved.{IsLoadAnswer}
 use Rattle.session.specs.declared.entry.Deed.{Deed}
+use Rattle.session.specs.declared.entry.Entry.{Entry as Read}
 use Rattle.session.specs.declared.entry.Deed.TheVariants as deed
 use Rattle.session.specs.declared.reply.Reply.{Reply}
+
+-- texts that a test finds equal
+yes : (b : Bool) → false ≡ not b → true ≡ b
+yes true h = refl
+yes false h = absurd (false≢true h)
+
+pub told_same : (xs ys : List ℕ) → false ≡ not (pointwise nat_eq xs ys) → xs ≡ ys
+told_same xs ys h = same_text xs ys (yes (pointwise nat_eq xs ys) h)
 
 -- what begins with a line is some bytes
 pub some_entry : (line rest : List ℕ) (traces : List Recorded) (told : List ℕ) → entries.entry_text (ended line ++ rest) traces told ≡ (ended line ++ rest) ++ (trace_text traces ++ told)
@@ -36,6 +49,20 @@ some_entry (b ∷ line) rest traces told = refl
 pub line_entry : (line : List ℕ) (traces : List Recorded) (told : List ℕ) → entries.entry_text (ended line) traces told ≡ ended line ++ (trace_text traces ++ told)
 line_entry [] traces told = refl
 line_entry (b ∷ line) traces told = refl
+
+-- a request is read with the traces behind it, and its reply
+pub does_parted : (text line rest traces_text more told behind : List ℕ) (asked : Asked) (traces : List Recorded) → text ≡ ended line ++ rest → rest ≡ traces_text ++ more → traces_text ≡ trace_text traces → more ≡ told ++ behind →
+    text ≡ entry_text (record { act = Does line asked traces; told = told }) ++ behind
+does_parted text line rest traces_text more told behind asked traces is split spelled parted =
+    is ∙ ap (λ t. ended line ++ t) (split ∙ ap₂ (λ (a b : List ℕ). a ++ b) spelled parted ∙ sym (append_assoc (trace_text traces) told behind)) ∙ sym (append_assoc (ended line) (trace_text traces ++ told) behind)
+    ∙ ap (λ t. t ++ behind) (sym (line_entry line traces told))
+
+-- and a request to load with its lines
+pub loads_parted : (text line rest body more told behind : List ℕ) (load : Load) → text ≡ ended line ++ rest → rest ≡ body ++ more → more ≡ told ++ behind →
+    text ≡ entry_text (record { act = Loads line load body; told = told }) ++ behind
+loads_parted text line rest body more told behind load is split parted =
+    is ∙ ap (λ t. ended line ++ t) (split ∙ ap (λ t. body ++ t) parted) ∙ sym (append_assoc (ended line) body (told ++ behind)) ∙ sym (append_assoc (ended line ++ body) told behind)
+    ∙ ap (λ t. t ++ behind) (sym (some_entry line body [] told))
 
 -- ---- runs
 
@@ -49,6 +76,10 @@ pub rerun_more : (s : Schedule) (bodies others : List BodyMeaning) (start middle
     IsReplayed (recording s r.sets) others middle r.steps left → AreReplayedRuns s bodies start (take (i + 1) runs) left
 rerun_more s bodies others start middle left runs i r known at same ran next = subst (λ rs. AreReplayedRuns s bodies start rs left) (sym (seen_next runs i r known at))
     (rerun_next s bodies start middle left (take i runs) r ran (subst (λ bs. IsReplayed (recording s r.sets) bs middle r.steps left) same next))
+
+-- an engine of these parts, which isn't spoiled
+abbrev pub mended : {B : Type 0} → Schedule → List (Option B) → State → EngineValue B
+mended s bodies state = record { schedule = s; bodies = bodies; state = state; spoiled = false }
 
 -- bodies that fit suit a state whose memories are those of the schedule
 pub suit : {B : Type 0} (fits : B → Params → Bool) (s : Schedule) (others bodies : List (Option B)) (state : State) → Suits fits s others state → AreFit fits s bodies → Suits fits s bodies state
@@ -76,6 +107,16 @@ module _ {B : Type 0} (meaning : B → Params → BodyMeaning) where
       subst (λ (l : Load). IsLoadAnswer old l text reply new) same.0 (subst (λ t. IsLoadAnswer old loaded t reply new) same.1 h)
   redone_as bodies old new reply (deed.Does request traces) (Loads line load text) same h = absurd same
   redone_as bodies old new reply (deed.Loads loaded lines) (Does line asked runs) same h = absurd same
+
+  -- the first entry of a text was read, and taken again
+  pub first_taken : (bodies : List BodyMeaning) (old new : Live B) (text words behind : List ℕ) (read : Read) → IsReadEntry text read behind → HasTakenAs meaning bodies old new read words → HasTakenFirst meaning bodies old new text words behind
+  first_taken bodies old new text words behind read is taken = record {
+    entry = record { act = is.act; told = read.told.now };
+    reply = taken.reply;
+    spelled = is.parted;
+    taken = record { spelled = is.spelled; redone = redone_as bodies old new taken.reply read.deed is.act is.is taken.taken; done = taken.done; told = taken.told };
+    replied = taken.replied;
+  }
 
   -- one more
   taken_more : (bodies : List BodyMeaning) (old mid new : Live B) (es : List Entry) (replies : List Reply) (entry : Entry) (reply : Reply) → AreTaken meaning bodies old es replies mid → IsTaken meaning bodies mid entry reply new →

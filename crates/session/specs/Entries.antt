@@ -63,9 +63,13 @@ pub record IsLineEntry {B : Type 0} (meaning : B → Params → BodyMeaning) (wi
   pub runs : AreRunsOf meaning width old asked reply traces new
   pub spelled : entry ≡ entry_text (line_entry asked (ended line) reply) traces (reply_text reply)
 
+-- a text of what is done
+abbrev pub when_done : Reply → List ℕ → List ℕ
+when_done reply text = if is_done reply then text else []
+
 -- what is recorded of a state that is loaded: all lines that were sent
 abbrev pub load_entry : List ℕ → List ℕ → Reply → List ℕ
-load_entry line text reply = if is_done reply then ended line ++ text else []
+load_entry line text reply = when_done reply (ended line ++ text)
 
 -- the entry of what was sent, by its reply. What was not done has none
 abbrev pub IsEntry : {B : Type 0} → (B → Params → BodyMeaning) → ℕ → Live B → Sent → Reply → List ℕ → Live B → Type 0

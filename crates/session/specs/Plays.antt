@@ -9,6 +9,7 @@ use Rattle.requests.specs.Asked.{Asked}
 use Rattle.requests.specs.Asked.Asked.{Quit}
 use Rattle.requests.specs.Faults.{IsRequestFault}
 use Rattle.requests.specs.Grammar.{IsRequest}
+use Rattle.requests.specs.declared.request.RequestFault.{RequestFault}
 use Rattle.requests.specs.declared.request.RequestFault.TheVariants as fault
 use Rattle.requests.specs.Load.{IsLoad}
 use Rattle.requests.specs.declared.load.Load.{Load}
@@ -40,6 +41,12 @@ pub record IsAnswered {B : Type 0} (meaning : B → Params → BodyMeaning) (sco
   pub spells : SpellsOnly IsRequest line asked
   pub answer : IsAnswer meaning scope width old asked reply new
   pub ends : last ≡ is_quit asked
+
+-- what is replied where a line asks for nothing, or memory fails
+abbrev pub unasked_reply : RequestFault → Reply
+unasked_reply fault.Unknown = Refused refusal.Unknown
+unasked_reply fault.Query = Refused refusal.Query
+unasked_reply fault.Memory = Failed
 
 -- a line is no text or asks for nothing, and is refused for it. An allocation may fail at any time
 abbrev pub IsUnasked : List ℕ → Reply → Type 0

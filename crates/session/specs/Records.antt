@@ -142,6 +142,14 @@ abbrev pub IsTakenAs : {B : Type 0} → (B → Params → BodyMeaning) → List 
 IsTakenAs meaning bodies old (deed.Does request traces) reply new = HasRedone meaning bodies old (asked_of request) traces.items reply new
 IsTakenAs meaning bodies old (deed.Loads load lines) reply new = IsLoadAnswer old load lines.now reply new
 
+-- what was read of an entry was taken again, and replied as it was told
+pub record HasTakenAs {B : Type 0} (meaning : B → Params → BodyMeaning) (bodies : List BodyMeaning) (old new : Live B) (read : Read) (words : List ℕ) : Type 0 where
+  pub reply : Reply
+  pub taken : IsTakenAs meaning bodies old read.deed reply new
+  pub done : is_done reply ≡ true
+  pub told : read.told.now ≡ reply_text reply
+  pub replied : words ≡ reply_text reply
+
 -- the first entry of a text was taken again, and this stands behind it
 pub record HasTakenFirst {B : Type 0} (meaning : B → Params → BodyMeaning) (bodies : List BodyMeaning) (old new : Live B) (text told behind : List ℕ) : Type 0 where
   pub entry : Entry

@@ -1,5 +1,5 @@
 -- Replays: what a session recorded, taken again by another, leads that one to the same states. Left out are states that were loaded.
-use Rattle.std.specs.Prelude.{ℕ, ◌≡◌, ◌×◌, ◌⊎◌, Bool, true, false, List, [], ◌∷◌}
+use Rattle.std.specs.Prelude.{ℕ, ◌≡◌, ◌⊎◌, Bool, true, false, List, [], ◌∷◌}
 use Rattle.model.specs.access.Access.{Params}
 use Rattle.model.specs.shown.Outcome.{BodyMeaning}
 use Rattle.model.specs.steps.Schedule.{Recorded}
@@ -29,12 +29,12 @@ pub record AreSame {B C : Type 0} (one : Live B) (other : Live C) : Type 0 where
 -- ---- what is recorded
 
 -- a line that asks for this was done and is recorded, with the traces of what it ran, and with its reply
-pub record IsNotedLine {B : Type 0} (meaning : B → Params → BodyMeaning) (width : ℕ) (old : Live B) (line : List ℕ) (reply : Reply) (new : Live B) (recorded : List ℕ) (asked : Asked) (traces : List Recorded) (told : List ℕ) : Type 0 where
+pub record IsNotedLine {B : Type 0} (meaning : B → Params → BodyMeaning) (width : ℕ) (old : Live B) (line : List ℕ) (reply : Reply) (new : Live B) (recorded : List ℕ) (asked : Asked) (traces : List Recorded) (words : List ℕ) : Type 0 where
   pub same : recorded ≡ line
   pub spells : SpellsOnly IsRequest line asked
   pub runs : AreRunsOf meaning width old asked reply traces new
   pub done : is_done reply ≡ true
-  pub told : told ≡ reply_text reply
+  pub told : words ≡ reply_text reply
 
 -- what was sent is recorded in this entry
 abbrev pub IsNotedAs : {B : Type 0} → (B → Params → BodyMeaning) → ℕ → Live B → Sent → Reply → Live B → Entry → Type 0

@@ -1,6 +1,6 @@
 // The entries of a record, read from its text.
 
-ghost use Rattle.std.specs.Prelude.{◌≡◌, ◌≤◌, ◌++◌, length, string_bytes, IfOk, IfSome};
+ghost use Rattle.std.specs.Prelude.{◌≡◌, ◌++◌, string_bytes, IfOk, IfSome};
 ghost use Rattle.hex.specs.Hex.{encode_lower};
 ghost use Rattle.session.specs.Body.{AreLines, ended};
 ghost use Rattle.session.specs.Records.{IsReadEntry, head_line};
@@ -56,10 +56,10 @@ pub(crate) fn read_entry(alloc: Global, text: &[u8]) -> Result<(Entry<'_>, &[u8]
         let deed = Deed::Loads(load, body);
         return Ok((Entry { deed, told }, behind));
     }
-    let (traces, rest) = rest.split_at(length_of_traces(rest));
-    let (told, behind) = first_reply(rest)?;
+    let front = split_traces(rest);
+    let (told, behind) = first_reply(front.1)?;
     let request = read_request(alloc, line)?;
-    let traces = read_traces(alloc, traces)?;
+    let traces = read_traces(alloc, front.0)?;
     let deed = Deed::Does(request, traces);
     Ok((Entry { deed, told }, behind))
 }
@@ -109,9 +109,9 @@ fn count_of(line: &[u8]) -> Option<u32> {
     count.parse::<u32>().ok()
 }
 
-// How long the lines at the front of a text are that begin with an upper-case letter, as those of traces do.
-fn length_of_traces(text: &[u8]) -> usize
-    ensures { result ≤ length text.now }
+// The lines at the front of a text that begin with an upper-case letter, as those of traces do, and what stands behind them.
+fn split_traces(text: &[u8]) -> (&[u8], &[u8])
+    ensures { text.now ≡ result.0.now ++ result.1.now }
 {
     let mut rest = text;
     while rest.first().is_some_and(|byte| byte.is_ascii_uppercase()) {
@@ -120,5 +120,5 @@ fn length_of_traces(text: &[u8]) -> usize
         };
         rest = behind;
     }
-    text.len() - rest.len()
+    text.split_at(text.len() - rest.len())
 }

@@ -1,15 +1,17 @@
 // A session played on a reader and a writer: a request a line, and a reply to each before the next is read.
 
-ghost use Rattle.std.specs.Prelude.{◌≡◌, ◌++◌, [], false, string_bytes, true, MatchOption, OnOk};
+ghost use Rattle.std.specs.Prelude.{ℕ, ◌≡◌, ◌++◌, List, [], if◌then◌else◌, false, string_bytes, true, IfErr, MatchOption, OnOk};
 ghost use Rattle.requests.specs.Asked.{asked_of};
 ghost use Rattle.parsing.specs.Reads.{SpellsOnly};
 ghost use Rattle.requests.specs.Load.{IsLoad};
 ghost use Rattle.session.specs.Answers.{IsAnswer};
-ghost use Rattle.session.specs.Entries.{AreRunsOf, HasEntry, HaveText, entry_text, is_done, is_recorded, kept, line_entry};
+ghost use Rattle.session.specs.Entries.{AreRunsOf, HasEntry, HaveText, entry_text, is_done, is_recorded, kept, line_entry, when_done};
 ghost use Rattle.session.specs.Played.{IsLoadTurn, IsNoted, IsPlayed, IsTurn, fault_of_read};
-ghost use Rattle.session.specs.Plays.{IsNoLoad, IsReplied, Sent, is_quit};
+ghost use Rattle.session.specs.Body.{IsKnownAs};
+ghost use Rattle.session.specs.Plays.{IsLoadReply, IsNoLoad, IsReplied, Sent, is_quit, unasked_reply};
 ghost use Rattle.session.specs.Replies.{reply_text};
 ghost use Rattle.session.specs.Saved.{IsLoadAnswer};
+ghost use Rattle.trace_checker.specs.Grammar.{trace_text};
 ghost use Rattle.session.specs.declared.play.PlayFault.TheVariants as play_fault;
 
 use crate::body_lines::{Follows, add_line, read_body};
@@ -242,22 +244,43 @@ fn take_load<B: Body, R: BufRead>(
     ensures { IsLoadTurn room.old.line.items load recorded room.new.entry.items session.old
         session.new (R.remaining requests.old) (R.remaining requests.new) result }
 {
-    let alloc = room.alloc;
     room.entry.clear();
     let begun = add_line(room.line.as_slice(), &mut room.entry);
-    let mut text = Vec::new(alloc);
-    let reply = match read_body(requests, load.lines, &mut room.line, &mut text)? {
-        None => return Ok(None),
-        Some(Follows::Whole) if begun.is_ok() => {
-            load_text(session, load, text.as_slice(), room, recorded)
-        }
-        Some(Follows::Whole) | Some(Follows::Failed) => Reply::Failed,
-        Some(Follows::TooLong) => Reply::Refused(Refusal::LongText),
+    let mut text = Vec::new(room.alloc);
+    let Some(known) = read_body(requests, load.lines, &mut room.line, &mut text)? else {
+        return Ok(None);
     };
-    if !is_done(&reply) {
-        room.entry.clear();
+    let known = known.behind(begun);
+    let reply = act_on(session, load, known, text.as_slice(), room, recorded);
+    Ok(Some(Replied::plain(room.alloc, reply)))
+}
+
+// Loads a text of which this is known, and adds it to its entry, where a record is kept. What is not done has none.
+fn act_on<B: Body>(
+    session: &mut Session<B>,
+    load: Load,
+    known: Follows,
+    text: &[u8],
+    room: &mut Room<B>,
+    recorded: bool,
+) -> Reply
+    ensures replied { (whole : List ℕ) → IsKnownAs known whole text.now → IsLoadReply session.old
+        load whole result session.new }
+    ensures done { is_done result ≡ true → known ≡ Follows.Whole }
+    ensures entry { recorded ≡ true → room.new.entry.items
+        ≡ when_done result (room.old.entry.items ++ text.now) }
+{
+    match known {
+        Follows::Whole => load_text(session, load, text, room, recorded),
+        Follows::Failed => {
+            room.entry.clear();
+            Reply::Failed
+        }
+        Follows::TooLong => {
+            room.entry.clear();
+            Reply::Refused(Refusal::LongText)
+        }
     }
-    Ok(Some(Replied::plain(alloc, reply)))
 }
 
 // Loads a text, and adds it to its entry, where a record is kept.
@@ -269,13 +292,25 @@ fn load_text<B: Body>(
     recorded: bool,
 ) -> Reply
     ensures loaded { IsLoadAnswer session.old load text.now result session.new }
-    ensures entry { recorded ≡ true → is_done result ≡ true
-        → room.new.entry.items ≡ room.old.entry.items ++ text.now }
+    ensures entry { recorded ≡ true → room.new.entry.items
+        ≡ when_done result (room.old.entry.items ++ text.now) }
 {
     if recorded && room.entry.extend_from_slice(text).is_err() {
+        room.entry.clear();
         return Reply::Failed;
     }
-    session.load(room.alloc, load, text)
+    let reply = session.load(room.alloc, load, text);
+    keep_where(is_done(&reply), &mut room.entry);
+    reply
+}
+
+// Empties an entry of what is not done.
+fn keep_where(done: bool, entry: &mut Vec<u8>)
+    ensures { entry.new.items ≡ if done then entry.old.items else [] }
+{
+    if !done {
+        entry.clear();
+    }
 }
 
 // Whether what was asked for is done.
@@ -303,6 +338,20 @@ fn note<J: Write>(
     if entry.is_empty() {
         return Ok(());
     }
+    complete(alloc, entry, runs, told)?;
+    match write_bytes(record, entry.as_slice()) {
+        Ok(()) => Ok(()),
+        Err(_) => Err(PlayFault::Record),
+    }
+}
+
+// Adds to an entry the traces of what was run, and the text of the reply.
+fn complete(alloc: Global, entry: &mut Vec<u8>, runs: &[Trace], told: &str) -> Result<(), PlayFault>
+    requires { HaveText runs.now }
+    ensures whole { OnOk result (entry.new.items ≡ entry.old.items ++ (trace_text runs.now
+        ++ told.now)) }
+    ensures memory { IfErr result (λ fault. fault ≡ PlayFault.Memory) }
+{
     if !runs.is_empty() {
         let Ok(text) = text_of_traces(alloc, runs, usize::MAX) else {
             return Err(PlayFault::Memory);
@@ -310,10 +359,7 @@ fn note<J: Write>(
         entry.extend_from_slice(text.as_bytes())?;
     }
     entry.extend_from_slice(told.as_bytes())?;
-    match write_bytes(record, entry.as_slice()) {
-        Ok(()) => Ok(()),
-        Err(_) => Err(PlayFault::Record),
-    }
+    Ok(())
 }
 
 // Spells a reply, in the room of a list.
@@ -341,21 +387,34 @@ fn reply_to<'s, B: Body + 's, M: Mode<'s>>(
     let Ok(line) = str::from_utf8(room.line.as_slice()) else {
         return Replied::plain(alloc, Reply::Refused(Refusal::Unknown));
     };
+    if let Err(_) = add_line(line.as_bytes(), &mut room.entry) {
+        room.entry.clear();
+        return Replied::plain(alloc, Reply::Failed);
+    }
     match read_request(alloc, line) {
-        Ok(request) => match add_line(line.as_bytes(), &mut room.entry) {
-            Ok(()) => answer(
-                alloc,
-                session,
-                mode,
-                &mut room.crew,
-                &request,
-                &mut room.entry,
-            ),
-            Err(_) => Replied::plain(alloc, Reply::Failed),
-        },
-        Err(RequestFault::Unknown) => Replied::plain(alloc, Reply::Refused(Refusal::Unknown)),
-        Err(RequestFault::Query) => Replied::plain(alloc, Reply::Refused(Refusal::Query)),
-        Err(RequestFault::Memory) => Replied::plain(alloc, Reply::Failed),
+        Ok(request) => answer(
+            alloc,
+            session,
+            mode,
+            &mut room.crew,
+            &request,
+            &mut room.entry,
+        ),
+        Err(fault) => {
+            room.entry.clear();
+            Replied::plain(alloc, unasked(fault))
+        }
+    }
+}
+
+// What is replied to a line that asks for nothing.
+fn unasked(fault: RequestFault) -> Reply
+    ensures { result ≡ unasked_reply fault }
+{
+    match fault {
+        RequestFault::Unknown => Reply::Refused(Refusal::Unknown),
+        RequestFault::Query => Reply::Refused(Refusal::Query),
+        RequestFault::Memory => Reply::Failed,
     }
 }
 

@@ -75,6 +75,16 @@ pub enum RecordFault {
     Memory,
 }
 
+impl RecordFault {
+    // What the fault of the entry of this number is reported as.
+    pub(crate) fn at_entry(number: usize, fault: EntryFault) -> Self {
+        match fault {
+            EntryFault::Memory => RecordFault::Memory,
+            fault => RecordFault::Entry(number, fault),
+        }
+    }
+}
+
 impl From<WriteFault> for RecordFault {
     fn from(_error: WriteFault) -> Self {
         RecordFault::Write

@@ -1,13 +1,13 @@
 // Records taken again: requests by the session, runs by their traces.
 
-ghost use Rattle.std.specs.Prelude.{◌≡◌, true, false, length, map, string_bytes, Err, IfOk, IsTrue, Some};
+ghost use Rattle.std.specs.Prelude.{◌≡◌, true, false, length, map, string_bytes, IfOk, IsTrue, OnOk, Some};
 ghost use Rattle.engine.specs.Meanings.{AreFit, Suits, meanings};
 ghost use Rattle.model.specs.sessions.Sessions.{AreReplayedRuns};
 ghost use Rattle.requests.specs.Asked.{Asked as asked};
 ghost use Rattle.session.specs.Entries.{is_done};
-ghost use Rattle.session.specs.Records.{HasTakenFirst, IsRedone, IsTakenAgain, IsTakenAs, head_line};
+ghost use Rattle.session.specs.Records.{HasTakenAs, IsRedone, IsTakenAgain, IsTakenAs, head_line};
 
-use crate::entry::{Deed, head_of, read_entry};
+use crate::entry::{Deed, Entry, head_of, read_entry};
 use crate::play::{is_recorded, spell};
 use crate::record_fault::{EntryFault, RecordFault};
 use crate::reply::{Answered, Refusal, Reply, Shown};
@@ -59,22 +59,29 @@ pub fn replay_record<'a, B: Body, O: Write>(
         return Err(RecordFault::Bodies);
     }
     let head = head_of(alloc, session.file)?;
-    if !journal.starts_with(head.as_bytes()) {
+    let Some((front, mut rest)) = journal.split_at_checked(head.len()) else {
+        return Err(RecordFault::File);
+    };
+    if front != head.as_bytes() {
         return Err(RecordFault::File);
     }
-    let mut rest = &journal[head.len()..];
     let mut text = String::new(alloc);
-    let mut entries = 0;
-    while !rest.is_empty() {
-        match next(alloc, session, bodies, rest, &mut text) {
-            Ok(behind) => rest = behind,
-            Err(EntryFault::Cut) => break,
-            Err(EntryFault::Memory) => return Err(RecordFault::Memory),
-            Err(fault) => return Err(RecordFault::Entry(entries + 1, fault)),
+    for entries in 0..usize::MAX {
+        if rest.is_empty() {
+            return Ok(Taken { entries, rest });
+        }
+        let (entry, behind) = match read_entry(alloc, rest) {
+            Ok(read) => read,
+            Err(EntryFault::Cut) => return Ok(Taken { entries, rest }),
+            Err(fault) => return Err(RecordFault::at_entry(entries + 1, fault)),
+        };
+        if let Err(fault) = redo(alloc, session, bodies, &entry, &mut text) {
+            return Err(RecordFault::at_entry(entries + 1, fault));
         }
         write_whole(out, text.as_str())?;
-        entries += 1;
+        rest = behind;
     }
+    let entries = usize::MAX;
     Ok(Taken { entries, rest })
 }
 
@@ -86,34 +93,30 @@ fn fit<B: Body>(session: &Session<B>, bodies: &[B]) -> bool
     check_parts(engine.schedule(), bodies, engine.state()).is_ok()
 }
 
-// Takes the first entry of a text again, and spells what is replied. Gives what stands behind it.
-fn next<'a, B: Body>(
+// Takes an entry again, and spells what is replied.
+fn redo<B: Body>(
     alloc: Global,
     session: &mut Session<B>,
     bodies: &mut [B],
-    text: &'a [u8],
+    entry: &Entry<'_>,
     told: &mut String,
-) -> Result<&'a [u8], EntryFault>
+) -> Result<(), EntryFault>
     requires { AreFit B.fits session.old.engine.schedule (map Some bodies.old) }
-    ensures taken { IfOk result (λ behind. HasTakenFirst B.meaning (meanings B.meaning
-        session.old.engine.schedule (map Some bodies.old)) session.old session.new text.now
-        (string_bytes told.new) behind.now) }
-    ensures cut { result ≡ Err EntryFault.Cut → session.new ≡ session.old }
-    ensures schedule { IfOk result (λ behind. session.new.engine.schedule
-        ≡ session.old.engine.schedule) }
-    ensures fit { IfOk result (λ behind. AreFit B.fits session.old.engine.schedule (map Some
-        bodies.new)) }
-    ensures meanings { IfOk result (λ behind. meanings B.meaning session.old.engine.schedule (map
-        Some bodies.new)
+    ensures taken { OnOk result (HasTakenAs B.meaning (meanings B.meaning
+        session.old.engine.schedule (map Some bodies.old)) session.old session.new entry.now
+        (string_bytes told.new)) }
+    ensures schedule { OnOk result (session.new.engine.schedule ≡ session.old.engine.schedule) }
+    ensures fit { OnOk result (AreFit B.fits session.old.engine.schedule (map Some bodies.new)) }
+    ensures meanings { OnOk result (meanings B.meaning session.old.engine.schedule (map Some
+        bodies.new)
         ≡ meanings B.meaning session.old.engine.schedule (map Some bodies.old)) }
 {
-    let (entry, behind) = read_entry(alloc, text)?;
     let reply = take(alloc, session, bodies, &entry.deed)?;
     spell(told, &reply)?;
     if told.as_bytes() != entry.told {
         return Err(EntryFault::Reply);
     }
-    Ok(behind)
+    Ok(())
 }
 
 // Does what is recorded again.
@@ -127,7 +130,6 @@ fn take<B: Body>(
     ensures taken { IfOk result (λ reply. IsTakenAs B.meaning (meanings B.meaning
         session.old.engine.schedule (map Some bodies.old)) session.old deed.now reply session.new
         × (is_done reply ≡ true)) }
-    ensures cut { result ≡ Err EntryFault.Cut → ⊥ }
     ensures schedule { IfOk result (λ reply. session.new.engine.schedule
         ≡ session.old.engine.schedule) }
     ensures fit { IfOk result (λ reply. AreFit B.fits session.old.engine.schedule (map Some
@@ -160,7 +162,6 @@ fn take<B: Body>(
 // A reply to what is done.
 fn done(reply: Reply) -> Result<Reply, EntryFault>
     ensures done { IfOk result (λ same. (same ≡ reply) × (is_done same ≡ true)) }
-    ensures cut { result ≡ Err EntryFault.Cut → ⊥ }
 {
     match reply {
         Reply::Refused(why) => Err(EntryFault::Refused(why)),
@@ -183,7 +184,6 @@ impl<B: Body> Session<B> {
             self.old.engine.schedule (map Some bodies.old)) self.old (asked.Run (length traces.now))
             traces.now reply self.new) }
         ensures done { IfOk result (λ reply. is_done reply ≡ true) }
-        ensures cut { result ≡ Err EntryFault.Cut → ⊥ }
         ensures schedule { self.new.engine.schedule ≡ self.old.engine.schedule }
         ensures fit { IfOk result (λ done. AreFit B.fits self.old.engine.schedule (map Some
             bodies.new)) }

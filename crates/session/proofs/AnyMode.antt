@@ -1,10 +1,11 @@
 -- The replies to requests that ask for no runs, in any mode.
-use Rattle.std.proofs.Common.{◌≡◌, ℕ, Bool, true, false, List, [], refl, subst, sym}
+use Rattle.std.proofs.Common.{◌≡◌, ℕ, Bool, true, false, List, [], subst, sym}
+use Rattle.std.proofs.lemmas.Bool.{false≢true}
 use Rattle.model.specs.access.Access.{Params}
 use Rattle.model.specs.shown.Outcome.{BodyMeaning}
 use Rattle.model.specs.steps.Schedule.{Recorded}
 use Rattle.requests.specs.Asked.{Asked}
-use Rattle.requests.specs.Asked.Asked as asked
+use Rattle.requests.specs.Asked.{Asked as asked}
 use Rattle.session.specs.Answers.{IsAnswer, IsDone, IsLostBy}
 use Rattle.session.specs.Entries.{AreRunsOf, is_run}
 use Rattle.session.specs.Live.{Live}
@@ -13,7 +14,7 @@ use Rattle.session.specs.declared.reply.Reply.TheVariants.{Done, Refused, Failed
 
 module _ {B : Type 0} (meaning : B → Params → BodyMeaning) (old new : Live B) where
   done_in : (width : ℕ) (request : Asked) (shown : List ℕ) → is_run request ≡ false → IsDone meaning 1 old request shown new → IsDone meaning width old request shown new
-  done_in width (asked.Run times) shown still h = absurd still
+  done_in width (asked.Run times) shown still h = absurd (false≢true (sym still))
   done_in width asked.Hello shown still h = h
   done_in width (asked.Put put) shown still h = h
   done_in width asked.World shown still h = h
@@ -33,7 +34,7 @@ module _ {B : Type 0} (meaning : B → Params → BodyMeaning) (old new : Live B
   lost_in scope width request (Done clock shown) still h = (h.0, done_in width request _ still h.1)
   lost_in scope width request (Refused why) still h = h
   lost_in scope width request Failed still h = h
-  lost_in scope width (asked.Run times) (Lost fault) still h = absurd still
+  lost_in scope width (asked.Run times) (Lost fault) still h = absurd (false≢true (sym still))
   lost_in scope width asked.Hello (Lost fault) still h = h
   lost_in scope width (asked.Put put) (Lost fault) still h = h
   lost_in scope width asked.World (Lost fault) still h = h
@@ -55,7 +56,7 @@ module _ {B : Type 0} (meaning : B → Params → BodyMeaning) (old new : Live B
 
   -- and nothing is run
   pub no_runs_of : (width : ℕ) (request : Asked) (reply : Reply) (traces : List Recorded) → is_run request ≡ false → traces ≡ [] → AreRunsOf meaning width old request reply traces new
-  no_runs_of width (asked.Run times) reply traces still none = absurd still
+  no_runs_of width (asked.Run times) reply traces still none = absurd (false≢true (sym still))
   no_runs_of width asked.Hello reply traces still none = none
   no_runs_of width (asked.Put put) reply traces still none = none
   no_runs_of width asked.World reply traces still none = none

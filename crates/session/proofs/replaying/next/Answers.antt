@@ -1,2 +1,0 @@
-use Rattle.session.proofs.Retaken.{redone_as}
-use Rattle.session.proofs.replaying.next.Goals as goal
