@@ -11,8 +11,8 @@ class Lost(Exception):
 
 
 class Play:
-    def __init__(self, file, workers=0, program="ecsplay"):
-        words = [program, "play", file, "--workers", str(workers)]
+    def __init__(self, file, workers=0, program="ecsplay", more=()):
+        words = [program, "play", file, "--workers", str(workers), *more]
         self.process = subprocess.Popen(words, stdin=subprocess.PIPE, stdout=subprocess.PIPE)
         self.clock = 1
 

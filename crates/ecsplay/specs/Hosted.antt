@@ -1,42 +1,27 @@
 -- Sessions of program files, and how they end.
-use Rattle.std.specs.Prelude.{ℕ, ◌≡◌, ◌⊎◌, Bool, false, List, [], Option, Some, None, Result, Ok, Err, IfSome}
-use Rattle.command_line.specs.declared.args.Work.TheVariants.{Run}
+use Rattle.std.specs.Prelude.{ℕ, ◌≡◌, List, [], Option, Result, Ok, Err}
 use Rattle.program.specs.Hosted.{IsEngineOf}
-use Rattle.program.specs.Refused.{IsRefusedBy, IsUnread}
 use Rattle.program.specs.Served.{IsKept, Tells}
-use Rattle.program.specs.Setup.{script_means}
 use Rattle.program.specs.declared.fault.Fault.{Fault}
 use Rattle.program.specs.declared.fault.Fault.TheVariants as fault
 use Rattle.script.specs.declared.script_body.ScriptBody.{ScriptBody}
 use Rattle.sha2.specs.Sha256.{sha256}
 use Rattle.session.specs.Live.{Live}
-use Rattle.session.specs.Plays.{IsPlayed, Streams}
 use Rattle.session.specs.declared.play.PlayFault.{PlayFault}
 use Rattle.session.specs.declared.play.PlayFault.TheVariants as play
 use Rattle.ecsplay.specs.Greeting.{IsGreeting}
 
 -- a session of a file with these bytes: the engine of the file, nothing kept, its digest, and its greeting
-pub record IsOpened (bytes : Option (List ℕ)) (workers : ℕ) (live : Live ScriptBody) : Type 0 where
-  pub text : List ℕ
-  pub whole : IfSome bytes (λ all. text ≡ all)
+pub record IsOpened (text : List ℕ) (workers : ℕ) (live : Live ScriptBody) : Type 0 where
   pub engine : IsEngineOf text live.engine
   pub marks : live.marks ≡ []
   pub file : live.file ≡ sha256 text
   pub greeting : IsGreeting (sha256 text) live.engine.schedule workers live.greeting
 
--- the file is refused as a command that runs it no time is
-pub record IsFileRefused (bytes : Option (List ℕ)) (told : Fault) : Type 0 where
-  pub text : List ℕ
-  pub whole : IfSome bytes (λ all. text ≡ all)
-  pub refused : IsRefusedBy false 1 (Some text) None (Run 0 0 false) told
-
--- there is no session of a file: it is not read, or it is refused
-abbrev pub IsUnopened : Option (List ℕ) → Fault → Type 0
-IsUnopened bytes told = IsUnread bytes told ⊎ IsFileRefused bytes told
-
 -- what a session that ended early is reported as
 abbrev pub fault_of_play : PlayFault → Fault
 fault_of_play play.Read = fault.File
+fault_of_play play.Record = fault.Write
 fault_of_play play.Write = fault.Write
 fault_of_play play.Memory = fault.Memory
 
@@ -44,9 +29,3 @@ fault_of_play play.Memory = fault.Memory
 abbrev pub EndsWith : Result (Unit {0}) PlayFault → ℕ → (Option (List ℕ) × Option (List ℕ)) → Type 0
 EndsWith (Ok done) status faults = (status ≡ 0) × IsKept faults
 EndsWith (Err why) status faults = Tells (fault_of_play why) status faults
-
--- a session was played to its end, or to where its input, its output or memory failed, which is told
-pub record IsHosted (scope : Bool) (width : ℕ) (old new : Live ScriptBody) (before after : Streams) (status : ℕ) (faults : Option (List ℕ) × Option (List ℕ)) : Type 0 where
-  pub result : Result (Unit {0}) PlayFault
-  pub played : IsPlayed script_means scope width old new before after result
-  pub ends : EndsWith result status faults

@@ -1,3 +1,4 @@
 pub mod Asked
 pub mod Greeting
 pub mod Hosted
+pub mod Retaken

@@ -12,13 +12,32 @@ use command_line::grammar::{Argument, Grammar, Subcommand};
 use command_line::values::{number_between, value_of};
 use std::alloc::Global;
 
-/// What a command line asks for: a session of the schedule that a file declares.
+/// What is done with the schedule that a file declares.
+#[derive(Clone, Copy, PartialEq, Eq, Debug)]
+pub enum Work<'a> {
+    /// A session.
+    Play {
+        /// How many worker threads, at most 64. With none all is done on the program's own thread.
+        workers: u8,
+        /// The path of the file in which the session is recorded; empty where it isn't.
+        record: &'a str,
+        /// The path of the record from whose end the session goes on; empty where it begins anew.
+        from: &'a str,
+    },
+    /// A session that was recorded is taken again.
+    Replay {
+        /// The path of the record.
+        record: &'a str,
+    },
+}
+
+/// What a command line asks for.
 #[derive(Clone, Copy, PartialEq, Eq, Debug)]
 pub struct Args<'a> {
     /// The path of the program file.
     pub file: &'a str,
-    /// How many worker threads, at most 64. With none all is done on the program's own thread.
-    pub workers: u8,
+    /// What is done with it.
+    pub work: Work<'a>,
 }
 
 const MOST_WORKERS: u32 = 64;
@@ -39,18 +58,49 @@ const WORKERS: Argument = Argument {
     range: Some((0, 64)),
 };
 
+const RECORD: Argument = Argument {
+    id: "record",
+    long: "record",
+    value: "OUT",
+    help: "records what changes the state, for `replay`",
+    range: None,
+};
+
+const FROM: Argument = Argument {
+    id: "from",
+    long: "from",
+    value: "RECORD",
+    help: "goes on where a record ends",
+    range: None,
+};
+
+const RECORDED: Argument = Argument {
+    id: "recorded",
+    long: "",
+    value: "RECORD",
+    help: "a record of a session of the file",
+    range: None,
+};
+
 const GRAMMAR: Grammar = Grammar {
     program: "ecsplay",
-    subcommands: &[Subcommand {
-        name: "play",
-        about: "keeps the engine of a program file, and answers requests, a line each",
-        arguments: &[FILE, WORKERS],
-    }],
+    subcommands: &[
+        Subcommand {
+            name: "play",
+            about: "keeps the engine of a program file, and answers requests, a line each",
+            arguments: &[FILE, WORKERS, RECORD, FROM],
+        },
+        Subcommand {
+            name: "replay",
+            about: "takes a recorded session again, on one thread, and prints its replies",
+            arguments: &[FILE, RECORDED],
+        },
+    ],
 };
 
 impl<'a> Args<'a> {
-    /// Reads the words of a command line, of which the first is the program's own name: `play FILE [--workers W]`, where W is from 0 to 64, spelled in decimal
-    /// digits alone, and 0 if it is left out. Where `--help` stands in a line it is asked for, whatever else is at fault there.
+    /// Reads the words of a command line, of which the first is the program's own name: `play FILE [--workers W] [--record OUT] [--from RECORD]`,
+    /// where W is from 0 to 64, spelled in decimal digits alone, and 0 if it is left out, or `replay FILE RECORD`. Where `--help` stands in a line it is asked for, whatever else is at fault there.
     pub fn read(alloc: Global, words: &'a [String]) -> Result<Args<'a>, LineFault>
         ensures ok { IfOk result (λ args. asked_for asked_by ecsplay_program words.now
             ≡ Some (asked_of args)) }
@@ -89,11 +139,23 @@ impl<'a> Args<'a> {
     fn of(name: &str, found: &ArgMatches<'a>) -> Option<Args<'a>>
         ensures { option_map asked_of result ≡ asked_by name.now (rows_of (found_of found.now)) }
     {
+        let file = value_of(found, "file");
         match name {
             "play" => {
                 let workers = workers_of(found)?;
-                let file = value_of(found, "file");
-                Some(Args { file, workers })
+                let record = value_of(found, "record");
+                let from = value_of(found, "from");
+                let work = Work::Play {
+                    workers,
+                    record,
+                    from,
+                };
+                Some(Args { file, work })
+            }
+            "replay" => {
+                let record = value_of(found, "recorded");
+                let work = Work::Replay { record };
+                Some(Args { file, work })
             }
             _ => None,
         }

@@ -1,54 +1,43 @@
 // A session of a program file, on readers and writers.
 
-ghost use Rattle.std.specs.Prelude.{◌≡◌, ◌≤◌, IfErr, IfOk};
-ghost use Rattle.ecsplay.specs.Hosted.{IsHosted, IsOpened, IsUnopened, fault_of_play};
+ghost use Rattle.std.specs.Prelude.{◌≡◌, ◌≤◌, length, IfErr, IfOk};
+ghost use Rattle.command_line.specs.declared.args.Work.TheVariants as work;
+ghost use Rattle.ecsplay.specs.Hosted.{EndsWith, IsOpened, fault_of_play};
+ghost use Rattle.program.specs.Refused.{IsRefusedBy};
+ghost use Rattle.std.specs.Prelude.{None, Some, false};
 
 use crate::greeting::greeting_of;
 use program::Fault;
-use program::file::bytes_of;
 use program::hosting::engine_of;
 use program::serve::tell;
 use script::ScriptBody;
 use session::Session;
-use session::play::{PlayFault, play};
+use session::play::PlayFault;
 use sha2::{Digest, Sha256};
 use std::alloc::Global;
-use std::io::{BufRead, Read, Write};
+use std::io::Write;
 use std::thread::Scope;
-use worker_pool::{Mode, NoGate, Workers};
+use worker_pool::{NoGate, Workers};
 
-/// The session of a program file, which is to run with so many workers: its engine as its runs begin, and the greeting.
-pub fn session_of<F: Read>(
-    alloc: Global,
-    workers: u8,
-    file: &mut F,
-) -> Result<Session<ScriptBody>, Fault>
-    ensures opened { IfOk result (IsOpened (F.remaining file.old) workers) }
-    ensures refused { IfErr result (IsUnopened (F.remaining file.old)) }
+/// The session of a program file, which is to run with so many workers: its engine as its runs begin, and the greeting. The file is refused as a
+/// command that runs it no time is.
+pub fn session_of(alloc: Global, workers: u8, file: &[u8]) -> Result<Session<ScriptBody>, Fault>
+    requires { length file.now ≤ 1048576 }
+    ensures opened { IfOk result (IsOpened file.now workers) }
+    ensures refused { IfErr result (IsRefusedBy false 1 (Some file.now) None (work.Run 0 0 false)) }
 {
-    let bytes = bytes_of(alloc, file)?;
-    let engine = engine_of(alloc, bytes.as_slice())?;
-    let file = Sha256::digest(bytes.as_slice());
-    let greeting = greeting_of(alloc, file, engine.schedule(), workers)?;
-    Ok(Session::new(alloc, engine, file, greeting))
+    let engine = engine_of(alloc, file)?;
+    let digest = Sha256::digest(file);
+    let greeting = greeting_of(alloc, digest, engine.schedule(), workers)?;
+    Ok(Session::new(alloc, engine, digest, greeting))
 }
 
-/// Plays a session to its end, its runs in the mode, and gives the exit status: 0 where it ended behind `quit` or at the end of the requests.
-/// What goes wrong is reported to `faults` in one line, with status 3.
-pub fn host<'s, M: Mode<'s>, R: BufRead, O: Write, E: Write>(
-    alloc: Global,
-    session: &mut Session<ScriptBody>,
-    mode: &M,
-    requests: &mut R,
-    out: &mut O,
-    faults: &mut E,
-) -> u8
-    ensures { IsHosted (M.has_scope mode.now) (M.width mode.now) session.old session.new
-        (record { input = R.remaining requests.old; output = O.contents out.old })
-        (record { input = R.remaining requests.new; output = O.contents out.new })
-        result (E.contents faults.old, E.contents faults.new) }
+/// The exit status of a session: 0 where it ended behind `quit` or at the end of the requests. What goes wrong is reported to `faults` in one
+/// line, with status 3.
+pub fn status_of<E: Write>(alloc: Global, played: Result<(), PlayFault>, faults: &mut E) -> u8
+    ensures { EndsWith played result (E.contents faults.old, E.contents faults.new) }
 {
-    match play(alloc, session, mode, requests, out) {
+    match played {
         Ok(()) => 0,
         Err(fault) => tell(alloc, faults, &fault_of(fault)),
     }
@@ -60,7 +49,7 @@ fn fault_of(fault: PlayFault) -> Fault
 {
     match fault {
         PlayFault::Read => Fault::File,
-        PlayFault::Write => Fault::Write,
+        PlayFault::Record | PlayFault::Write => Fault::Write,
         PlayFault::Memory => Fault::Memory,
     }
 }

@@ -13,11 +13,7 @@ use schedule_builder::Built;
 
 /// Refuses bodies and a state that are not those of a schedule: `Count` where there isn't a body and a memory for each system and a memory for
 /// each condition, each memory with a cursor for each event reader, else `Misfit` for the least system whose body doesn't fit its parameters.
-pub(crate) fn check_parts<B: Body>(
-    built: &Built,
-    bodies: &[B],
-    state: &State,
-) -> Result<(), NewFault>
+pub fn check_parts<B: Body>(built: &Built, bodies: &[B], state: &State) -> Result<(), NewFault>
     ensures suits { OnOk result (Suits B.fits built.now (map Some bodies.now) state.now) }
     ensures keep { OnOk result (AllKeepWithin built.now (meanings B.meaning built.now (map Some
         bodies.now))) }

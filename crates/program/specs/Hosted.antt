@@ -9,3 +9,8 @@ use Rattle.program.specs.Said.{scripts_by}
 pub record IsEngineOf (bytes : List ℕ) (engine : EngineValue ScriptBody) : Type 0 where
   pub file : Accepted (Some bytes)
   pub is : engine ≡ record { schedule = file.schedule; bodies = map Some (scripts_by file.tables); state = start_of file; spoiled = false }
+
+-- these are the scripts of an accepted file with these bytes
+pub record AreScriptsIn (bytes : List ℕ) (scripts : List ScriptBody) : Type 0 where
+  pub file : Accepted (Some bytes)
+  pub are : scripts ≡ scripts_by file.tables

@@ -4,7 +4,7 @@ ghost use Rattle.std.specs.Prelude.{◌≡◌, ◌≤◌, false, length, map, No
 ghost use Rattle.archetype_store.specs.Layout.{AreAllHome};
 ghost use Rattle.command_line.specs.declared.args.Work.TheVariants as work;
 ghost use Rattle.engine.specs.FirstState.{first_state};
-ghost use Rattle.program.specs.Hosted.{IsEngineOf};
+ghost use Rattle.program.specs.Hosted.{AreScriptsIn, IsEngineOf};
 ghost use Rattle.program.specs.Refused.{IsRefusedBy};
 ghost use Rattle.program.specs.Setup.{AreScriptsOf};
 
@@ -38,6 +38,19 @@ pub fn engine_of(alloc: Global, bytes: &[u8]) -> Result<Engine<ScriptBody>, Faul
     } = load(alloc, tables)?;
     let world = world_of(alloc, entities.as_slice(), &resources)?;
     begun(alloc, built, bodies, world)
+}
+
+/// The scripts of a program file, which has at most 1,048,576 bytes: one for each system, in their order. It is refused as `engine_of` refuses it.
+pub fn scripts_of(alloc: Global, bytes: &[u8]) -> Result<Vec<ScriptBody>, Fault>
+    requires { length bytes.now ≤ 1048576 }
+    ensures scripts { IfOk result (λ scripts. AreScriptsIn bytes.now scripts.items) }
+    ensures refused { IfErr result (IsRefusedBy false 1 (Some bytes.now) None
+        (work.Run 0 0 false)) }
+{
+    let document = document_of(alloc, bytes)?;
+    let tables = ProgramFile::read(alloc, &document)?;
+    let Loaded { bodies, .. } = load(alloc, tables)?;
+    Ok(bodies)
 }
 
 /// The engine of a schedule and its scripts, over a world.

@@ -15,7 +15,7 @@ use Rattle.session.specs.declared.body_lines.Follows.TheVariants.{Whole, TooLong
 -- ---- lines
 
 -- one line more
-lines_more : (n : ℕ) (text line : List ℕ) → AreLines n text → IsUnended line → AreLines (n + 1) (text ++ ended line)
+pub lines_more : (n : ℕ) (text line : List ℕ) → AreLines n text → IsUnended line → AreLines (n + 1) (text ++ ended line)
 lines_more n text line h over = record {
   lines = h.lines ++ line ∷ [];
   many = length-append h.lines (line ∷ []) ∙ ap (λ m. m + 1) h.many;

@@ -13,3 +13,7 @@ mod NamedFiles
 mod LoadedTexts
 mod LoadReplies
 mod LoadTurns
+mod Retaken
+mod Noted
+mod AnyMode
+mod Replayed

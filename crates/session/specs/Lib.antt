@@ -4,6 +4,10 @@ pub mod Replies
 pub mod Looks
 pub mod Answers
 pub mod Plays
+pub mod Entries
+pub mod Played
 pub mod Lockstep
 pub mod Saved
 pub mod Body
+pub mod Records
+pub mod Replayed

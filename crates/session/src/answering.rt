@@ -6,11 +6,12 @@ ghost use Rattle.body.specs.Inputs.{input_of};
 ghost use Rattle.requests.specs.Asked.{asked_of};
 ghost use Rattle.requests.specs.Asked.{Asked as asked};
 ghost use Rattle.session.specs.Answers.{IsAnswer, lines_of_input};
+ghost use Rattle.session.specs.Entries.{AreRunsOf, HaveText, is_run};
 ghost use Rattle.session.specs.Live.{clock_in, state_in};
 ghost use Rattle.session.specs.Looks.{is_look, seen_by};
 ghost use Rattle.session.specs.Replies.{shown_text};
 
-use crate::reply::{Refusal, Reply, Shown};
+use crate::reply::{Answered, Refusal, Reply, Shown};
 use crate::session::Session;
 use body::{Body, Input, State};
 use engine::{Crew, InputFault, RunFault, SetFault};
@@ -25,27 +26,56 @@ use std::alloc::{AllocError, Global};
 use worker_pool::Mode;
 
 impl<B: Body> Session<B> {
-    /// Answers a request, its runs in the mode, by a crew whose workers stand wherever the mode has threads. Where the state is lost, as it is once
-    /// a run failed, only a greeting, going back, forgetting and quitting are answered.
+    /// Answers a request, its runs in the mode, by a crew whose workers stand wherever the mode has threads, and gives their traces. Where the state
+    /// is lost, as it is once a run failed, only a greeting, going back, forgetting and quitting are answered.
     pub fn answer<'s, M: Mode<'s>>(
         &mut self,
         alloc: Global,
         request: &Request<'_>,
         mode: &M,
         crew: &mut Crew<B>,
-    ) -> Reply
+    ) -> Answered
     where
         B: 's,
-        ensures { IsAnswer B.meaning (M.has_scope mode.now) (M.width mode.now) self.old
-            (asked_of request.now) result self.new }
+        ensures reply { IsAnswer B.meaning (M.has_scope mode.now) (M.width mode.now) self.old
+            (asked_of request.now) result.reply self.new }
+        ensures runs { AreRunsOf B.meaning (M.width mode.now) self.old (asked_of request.now)
+            result.reply result.runs.items self.new }
+        ensures text { HaveText result.runs.items }
+    {
+        match request {
+            Request::Run(times) => self.run(alloc, *times, mode, crew),
+            request => Answered::still(alloc, self.reply(alloc, request)),
+        }
+    }
+
+    /// Answers a request as `answer` does in a mode of one thread, on that of the caller. It reaches no code of threads, so a library whose host
+    /// may start none can call it.
+    pub fn answer_here(&mut self, alloc: Global, request: &Request<'_>) -> Answered
+        ensures reply { IsAnswer B.meaning false 1 self.old (asked_of request.now) result.reply
+            self.new }
+        ensures runs { AreRunsOf B.meaning 1 self.old (asked_of request.now) result.reply
+            result.runs.items self.new }
+        ensures text { HaveText result.runs.items }
+    {
+        match request {
+            Request::Run(times) => self.run_here(alloc, *times),
+            request => Answered::still(alloc, self.reply(alloc, request)),
+        }
+    }
+
+    // What is replied to a request that asks for no runs.
+    fn reply(&mut self, alloc: Global, request: &Request<'_>) -> Reply
+        requires { is_run (asked_of request.now) ≡ false }
+        ensures { IsAnswer B.meaning false 1 self.old (asked_of request.now) result self.new }
     {
         match request {
             Request::Hello => self.greet(alloc),
             Request::Back(name) => self.go_back(alloc, name),
             Request::Forget(name) => self.forget(name),
             Request::Quit => self.done(Shown::Nothing),
+            Request::Run(_) => unreachable!(),
             _ if self.engine.is_spoiled() => Reply::Refused(Refusal::Lost),
-            Request::Run(times) => self.run(alloc, *times, mode, crew),
             Request::Put(input) => self.put(alloc, input),
             Request::Mark(name) => self.mark(alloc, name),
             Request::Save => self.save(alloc),
@@ -75,24 +105,52 @@ impl<B: Body> Session<B> {
         }
     }
 
-    // Runs the schedule so many times.
+    // Runs the schedule so many times, in the mode.
     fn run<'s, M: Mode<'s>>(
         &mut self,
         alloc: Global,
         times: u32,
         mode: &M,
         crew: &mut Crew<B>,
-    ) -> Reply
+    ) -> Answered
     where
         B: 's,
-        requires { self.old.engine.spoiled ≡ false }
-        ensures { IsAnswer B.meaning (M.has_scope mode.now) (M.width mode.now) self.old
-            (asked.Run times) result self.new }
+        ensures reply { IsAnswer B.meaning (M.has_scope mode.now) (M.width mode.now) self.old
+            (asked.Run times) result.reply self.new }
+        ensures runs { AreRunsOf B.meaning (M.width mode.now) self.old (asked.Run times)
+            result.reply result.runs.items self.new }
+        ensures text { HaveText result.runs.items }
     {
+        if self.engine.is_spoiled() {
+            return Answered::still(alloc, Reply::Refused(Refusal::Lost));
+        }
         match self.engine.run_by(alloc, times, &mode.keeping(), crew) {
-            Ok(_traces) => self.done(Shown::Nothing),
+            Ok(runs) => Answered {
+                reply: self.done(Shown::Nothing),
+                runs,
+            },
             Err(RunFault::Spoiled) => unreachable!(),
-            Err(fault) => Reply::Lost(fault),
+            Err(fault) => Answered::still(alloc, Reply::Lost(fault)),
+        }
+    }
+
+    // The same on the thread of the caller.
+    fn run_here(&mut self, alloc: Global, times: u32) -> Answered
+        ensures reply { IsAnswer B.meaning false 1 self.old (asked.Run times) result.reply self.new }
+        ensures runs { AreRunsOf B.meaning 1 self.old (asked.Run times) result.reply
+            result.runs.items self.new }
+        ensures text { HaveText result.runs.items }
+    {
+        if self.engine.is_spoiled() {
+            return Answered::still(alloc, Reply::Refused(Refusal::Lost));
+        }
+        match self.engine.run_here(alloc, times) {
+            Ok(runs) => Answered {
+                reply: self.done(Shown::Nothing),
+                runs,
+            },
+            Err(RunFault::Spoiled) => unreachable!(),
+            Err(fault) => Answered::still(alloc, Reply::Lost(fault)),
         }
     }
 

@@ -1,6 +1,6 @@
 // The lines that follow a request.
 
-ghost use Rattle.std.specs.Prelude.{◌≡◌, ◌++◌, [], OnOk};
+ghost use Rattle.std.specs.Prelude.{ℕ, ◌≡◌, ◌++◌, List, [], Ok, OnOk};
 ghost use Rattle.session.specs.Body.{IsKnownAs, PassesLine, ReadsBody, TakesLine, ended};
 
 use crate::play::MOST_BYTES;
@@ -21,6 +21,20 @@ pub(crate) enum Follows {
     TooLong,
     // An allocation failed.
     Failed,
+}
+
+impl Follows {
+    // What is known of them behind a line whose entry was begun, or was not.
+    pub(crate) fn behind(self, begun: Result<(), AllocError>) -> Follows
+        ensures known { (text body : List ℕ) → IsKnownAs self text body → IsKnownAs result text
+            body }
+        ensures begun { result ≡ Follows.Whole → begun ≡ Ok tt }
+    {
+        match begun {
+            Ok(()) => self,
+            Err(_) => Follows::Failed,
+        }
+    }
 }
 
 // Reads so many lines into a list, which is empty, also where they are too long or an allocation fails, so that the next line is the one behind
@@ -96,7 +110,7 @@ fn with_line(line: &[u8], body: &mut Vec<u8>) -> Follows
 }
 
 // Adds a line with its end.
-fn add_line(line: &[u8], body: &mut Vec<u8>) -> Result<(), AllocError>
+pub(crate) fn add_line(line: &[u8], body: &mut Vec<u8>) -> Result<(), AllocError>
     ensures { OnOk result (body.new.items ≡ body.old.items ++ ended line.now) }
 {
     body.extend_from_slice(line)?;

@@ -2,6 +2,7 @@
 
 ghost use Rattle.std.specs.Prelude.{◌≡◌, false};
 ghost use Rattle.session.specs.Live.{is_lost};
+ghost use Rattle.session.specs.Replayed.{OneEntryIsReplayed, RecordsAreReplayed};
 ghost use Rattle.session.specs.Lockstep.{AreAlike, AreInLockstep, IsReady, OneLineAgrees, OneReplyAgrees, PlaysAgree, RepliesAgree};
 
 use crate::session::Session;
@@ -22,6 +23,14 @@ pub fn replies_agree<B: Body, C: Body>()
 pub fn plays_agree<B: Body, C: Body>()
     ensures one { OneLineAgrees B.meaning C.meaning }
     ensures all { PlaysAgree B.meaning C.meaning }
+{}
+
+/// Replays: what a session recorded, with its runs on however many threads, taken again on one thread by a session of the same file that kept the
+/// same states, is replied as it was, and leads to the same state, stamp for stamp, and to the same kept states. Left out are states that were
+/// loaded.
+pub fn replayed<B: Body, C: Body>()
+    ensures one { OneEntryIsReplayed B.meaning C.meaning }
+    ensures all { RecordsAreReplayed B.meaning C.meaning }
 {}
 
 /// What lockstep asks of a session by itself holds of each that isn't lost: its schedule is built, its bodies keep within their parameters, and

@@ -3,14 +3,18 @@
 
 mod answering;
 mod body_lines;
+mod entry;
 mod file_line;
 pub mod laws;
 pub mod marks;
 pub mod play;
+pub mod record_fault;
+pub mod replaying;
 pub mod reply;
 mod saving;
 pub mod session;
 
 pub use marks::Marks;
-pub use reply::{Refusal, Reply, Shown};
+pub use record_fault::{EntryFault, RecordFault};
+pub use reply::{Answered, Refusal, Reply, Shown};
 pub use session::Session;

@@ -1,10 +1,12 @@
 // What is replied to a request.
 
-ghost use Rattle.std.specs.Prelude.{◌≡◌};
+ghost use Rattle.std.specs.Prelude.{◌≡◌, []};
 ghost use Rattle.session.specs.Replies.{line_count};
 
 use engine::RunFault;
 use entity_table::Entity;
+use executor_core::Trace;
+use std::alloc::Global;
 use std::fmt;
 
 /// Why a request is refused. Nothing has changed then.
@@ -122,6 +124,28 @@ pub enum Reply {
     Failed,
     /// A run failed, and the state is lost.
     Lost(RunFault),
+}
+
+/// The reply to a request, and the traces of the runs that were done for it.
+#[derive(Drop)]
+pub struct Answered {
+    /// The reply.
+    pub reply: Reply,
+    /// A trace for each run.
+    pub runs: Vec<Trace>,
+}
+
+impl Answered {
+    // A reply behind which nothing was run.
+    pub(crate) fn still(alloc: Global, reply: Reply) -> Self
+        ensures reply { result.reply ≡ reply }
+        ensures none { result.runs.items ≡ [] }
+    {
+        Answered {
+            reply,
+            runs: Vec::new(alloc),
+        }
+    }
 }
 
 impl fmt::Display for Reply {

@@ -13,12 +13,19 @@ use thiserror::Error;
 #[error("the output can't be written")]
 pub struct WriteFault;
 
-/// Writes a text and flushes the writer. A call that was interrupted is taken up again. A writer that fails, or takes nothing, is a fault,
-/// and then it holds a beginning of the text.
+/// Writes a text, as [`write_bytes`] writes its bytes.
 pub fn write_whole<W: Write>(writer: &mut W, text: &str) -> Result<(), WriteFault>
     ensures { WritesWhole (W.contents writer.old) (W.contents writer.new) result text.now }
 {
-    let mut rest = text.as_bytes();
+    write_bytes(writer, text.as_bytes())
+}
+
+/// Writes bytes and flushes the writer. A call that was interrupted is taken up again. A writer that fails, or takes nothing, is a fault,
+/// and then it holds a beginning of the bytes.
+pub fn write_bytes<W: Write>(writer: &mut W, bytes: &[u8]) -> Result<(), WriteFault>
+    ensures { WritesWhole (W.contents writer.old) (W.contents writer.new) result bytes.now }
+{
+    let mut rest = bytes;
     while !rest.is_empty() {
         let count = write_part(writer, rest)?;
         rest = &rest[count..];

@@ -15,6 +15,7 @@ use crate::shapes::keep_shapes;
 use body::{Body, Input, State};
 use entity_table::Entity;
 use std::alloc::Global;
+use std::mem;
 
 impl<B: Body> Engine<B> {
     /// Puts an input in between runs, at the next tick, and gives the id of a new entity. `ClockSpent` where there is no next tick, or no next
@@ -59,6 +60,18 @@ impl<B: Body> Engine<B> {
         self.deferred = deferred;
         self.spoiled = false;
         Ok(())
+    }
+
+    /// Takes the state out of an engine that isn't spoiled. The engine is spoiled then, until another state is set.
+    pub fn take_state(&mut self, alloc: Global) -> State
+        requires { self.old.spoiled ≡ false }
+        ensures state { result ≡ self.old.state }
+        ensures spoiled { self.new.spoiled ≡ true }
+        ensures schedule { self.new.schedule ≡ self.old.schedule }
+        ensures bodies { self.new.bodies ≡ self.old.bodies }
+    {
+        self.spoiled = true;
+        mem::replace(&mut self.state, State::empty(alloc))
     }
 
     /// Ends the engine, and gives its state. Of an engine that is spoiled nothing more is said of it.

@@ -1,5 +1,5 @@
 use Rattle.streams.proofs.Parts.{part_taken}
-use Rattle.streams.proofs.writing.write_whole.Goals as goal
+use Rattle.streams.proofs.writing.write_bytes.Goals as goal
 
 -- the part that was taken joins the front
 pub loop-rest-preserved : goal.loop-rest-preserved
