@@ -1,6 +1,7 @@
 pub mod Answer
 pub mod Asked
 pub mod Drawings
+pub mod Explained
 pub mod Found
 pub mod Refusals
 pub mod Style
