@@ -38,19 +38,26 @@ pub enum BuildReason<'a> {
     OverLimit(u32),
 }
 
+// How many names are told at most.
+const MOST_NAMED: usize = 24;
+
 // Names with commas between.
 #[derive(Clone, Copy)]
 struct Listed<'a>(&'a [String]);
 
 impl fmt::Display for Listed<'_> {
     fn fmt<W: fmt::Write>(&self, f: &mut fmt::Formatter<W>) -> fmt::Result {
+        let named = self.0.len().min(MOST_NAMED);
         let mut between = "";
-        for name in self.0 {
+        for name in &self.0[..named] {
             let name = name.as_str();
             write!(f, "{between}`{name}`")?;
             between = ", ";
         }
-        Ok(())
+        match self.0.len() - named {
+            0 => Ok(()),
+            others => write!(f, " and {others} others"),
+        }
     }
 }
 

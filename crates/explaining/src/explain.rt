@@ -38,8 +38,13 @@ pub fn of_content<'a>(
 }
 
 /// What is found in a document of which the schedule is refused.
-pub fn of_build<'a>(document: &'a Table, fault: &'a BuildFault) -> Found<'a> {
-    found_or_bare(schedules::of_fault(document, fault))
+pub fn of_build<'a>(
+    alloc: Global,
+    document: &'a Table,
+    fault: &'a BuildFault,
+) -> Result<Found<'a>, AllocError> {
+    let found = schedules::of_fault(alloc, document, fault)?;
+    Ok(found_or_bare(found))
 }
 
 /// What is found in a document of which a script is refused: that of a system, for an instruction of a block.

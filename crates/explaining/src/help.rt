@@ -5,6 +5,9 @@ use crate::reason::Help;
 use kinds::Kind;
 use std::alloc::{AllocError, Global};
 
+// How many names of a list are told at most.
+const MOST_NAMED: usize = 24;
+
 /// What to do, in a line; empty where nothing is known.
 pub fn text_of_help(alloc: Global, help: Help<'_>) -> Result<String, AllocError> {
     match help {
@@ -14,7 +17,9 @@ pub fn text_of_help(alloc: Global, help: Help<'_>) -> Result<String, AllocError>
         Help::Add(key, value) => format!(in alloc; "add `{key} = {value}`"),
         Help::Bracket(text) => format!(in alloc; "put it into brackets: `[\"{text}\"]`"),
         Help::Double(key) => format!(in alloc; "write `[[{key}]]` in place of `[{key}]`"),
-        Help::Fields(kind) => text_of_fields(alloc, kind),
+        Help::Component(kind) => text_of_component(alloc, kind),
+        Help::Fields(kind) => String::from_str(alloc, fields_of(kind)),
+        Help::Insert(kind) => text_of_insert(alloc, kind),
         Help::Term(word, kind) => {
             let kind = kind.name();
             format!(in alloc; "have `{word} {kind}` in the query")
@@ -25,7 +30,26 @@ pub fn text_of_help(alloc: Global, help: Help<'_>) -> Result<String, AllocError>
 }
 
 // The fields of a kind.
-fn text_of_fields(alloc: Global, kind: Kind) -> Result<String, AllocError> {
+fn fields_of(kind: Kind) -> &'static str {
+    match kind.width() {
+        0 => "it has no fields",
+        1 => "its field is `v`",
+        _ => "its fields are `x` and `y`",
+    }
+}
+
+// How components of a kind are inserted.
+fn text_of_insert(alloc: Global, kind: Kind) -> Result<String, AllocError> {
+    let name = kind.name();
+    match kind.width() {
+        0 => format!(in alloc; "write `insert W {name}`"),
+        1 => format!(in alloc; "write `insert W {name} S`"),
+        _ => format!(in alloc; "write `insert W {name} S S`"),
+    }
+}
+
+// A component of a kind.
+fn text_of_component(alloc: Global, kind: Kind) -> Result<String, AllocError> {
     let name = kind.name();
     match kind.width() {
         0 => format!(in alloc; "`{name}` has no fields: `{name} = []`"),
@@ -62,10 +86,15 @@ fn text_of_all(alloc: Global, names: Names<'_>, list: &[&str]) -> Result<String,
         return format!(in alloc; "there is no {what}");
     }
     let mut text = String::from_str(alloc, "there are ")?;
+    let named = list.len().min(MOST_NAMED);
     let mut between = "";
-    for name in list {
+    for name in &list[..named] {
         write!(text, "{between}`{name}`")?;
         between = ", ";
+    }
+    if named < list.len() {
+        let others = list.len() - named;
+        write!(text, " and {others} others")?;
     }
     Ok(text)
 }

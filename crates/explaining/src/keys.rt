@@ -302,6 +302,7 @@ fn mistyped<'a>(
 ) -> Found<'a> {
     let reason = KeyReason::Mistyped {
         key,
+        item,
         owner,
         wants,
         value,

@@ -3,10 +3,13 @@
 
 mod build_reason;
 mod code_text;
+pub mod codes;
 mod condition_text;
+mod conflicts;
 pub mod explain;
 pub mod finding;
 mod help;
+mod index;
 mod keys;
 mod names;
 mod orders;

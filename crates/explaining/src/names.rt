@@ -95,8 +95,8 @@ pub struct Candidate {
     pub distance: usize,
 }
 
-/// The name that is similar to a word: none is nearer, and as few characters differ as a third of the longer of the two, or one. A word of more than
-/// 96 bytes is similar to none.
+/// The name that is similar to a word: none is nearer, and as few characters differ as a third of the longer of the two, or one, but not all. A word of
+/// more than 96 bytes is similar to none.
 pub fn similar<'n>(
     alloc: Global,
     word: &str,
@@ -110,7 +110,8 @@ pub fn similar<'n>(
     let nearest = nearest_of(alloc, word, names)?;
     let name = names[nearest.number];
     let longer = word.chars().count().max(name.chars().count());
-    if nearest.distance <= (longer / 3).max(1) {
+    let most = (longer / 3).max(1).min(longer.saturating_sub(1));
+    if nearest.distance <= most {
         Ok(Some(name))
     } else {
         Ok(None)

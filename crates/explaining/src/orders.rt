@@ -3,15 +3,14 @@
 use crate::keys::item_text;
 use crate::owner::{Owner, items_at, table_of, text_at};
 use crate::target::Target;
-use crate::terms::has_word;
 use program_file::Place;
-use std::alloc::{AllocError, Global};
 use toml::Table;
 
-// The keys of items that an item comes before, and of those that it comes after.
-const BEFORE_KEYS: [&str; 2] = ["before", "before_ignore_deferred"];
+/// The keys of items that an item comes before.
+pub const BEFORE_KEYS: [&str; 2] = ["before", "before_ignore_deferred"];
 
-const AFTER_KEYS: [&str; 2] = ["after", "after_ignore_deferred"];
+/// The keys of items that an item comes after.
+pub const AFTER_KEYS: [&str; 2] = ["after", "after_ignore_deferred"];
 
 /// How many sets and systems a document declares.
 pub fn item_count(document: &Table) -> usize {
@@ -63,22 +62,18 @@ pub fn named_at<'a>(
     None
 }
 
-/// The first declared order of one of some items before one of others: where it is declared.
-pub fn first_order<'a>(
-    document: &'a Table,
-    firsts: &[&str],
-    seconds: &[&str],
-) -> Option<Target<'a>> {
+/// The first declared order of an item before another: where it is declared.
+pub fn first_order<'a>(document: &'a Table, first: &str, second: &str) -> Option<Target<'a>> {
     for number in 0..item_count(document) {
         let (owner, table) = item_at(document, number)?;
-        let target = order_of_item(owner, table, firsts, seconds);
+        let target = order_of_item(owner, table, first, second);
         if target.is_some() {
             return target;
         }
     }
     for (number, value) in items_at(document, "chain").iter().enumerate() {
         let owner = Owner::of(document, Place::Chain(number));
-        let target = order_in_chain(owner, table_of(value)?, firsts, seconds);
+        let target = order_in_chain(owner, table_of(value)?, first, second);
         if target.is_some() {
             return target;
         }
@@ -90,85 +85,52 @@ pub fn first_order<'a>(
 fn order_of_item<'a>(
     owner: Owner<'a>,
     table: &'a Table,
-    firsts: &[&str],
-    seconds: &[&str],
+    first: &str,
+    second: &str,
 ) -> Option<Target<'a>> {
-    if has_word(firsts, owner.name) {
-        let target = named_among(owner, table, BEFORE_KEYS, seconds);
+    if owner.name == first {
+        let target = named_among(owner, table, BEFORE_KEYS, second);
         if target.is_some() {
             return target;
         }
     }
-    if has_word(seconds, owner.name) {
-        return named_among(owner, table, AFTER_KEYS, firsts);
+    if owner.name == second {
+        return named_among(owner, table, AFTER_KEYS, first);
     }
     None
 }
 
-// The first text of the arrays at two keys that is one of some names.
+// The first text of the arrays at two keys that is a name.
 fn named_among<'a>(
     owner: Owner<'a>,
     table: &'a Table,
     keys: [&'static str; 2],
-    names: &[&str],
+    name: &str,
 ) -> Option<Target<'a>> {
     for key in keys {
-        for name in names {
-            let target = named_at(owner, table, key, name);
-            if target.is_some() {
-                return target;
-            }
+        let target = named_at(owner, table, key, name);
+        if target.is_some() {
+            return target;
         }
     }
     None
 }
 
-// The same of a chain.
+// The first order of an item before another in a chain.
 fn order_in_chain<'a>(
     owner: Owner<'a>,
     table: &'a Table,
-    firsts: &[&str],
-    seconds: &[&str],
+    first: &str,
+    second: &str,
 ) -> Option<Target<'a>> {
     let items = items_at(table, "items");
     for number in 1..items.len() {
         let text = item_text(items, number);
-        if has_word(firsts, item_text(items, number - 1)) && has_word(seconds, text) {
+        if item_text(items, number - 1) == first && text == second {
             return Some(Target::text(owner, "items", Some(number), text));
         }
     }
     None
-}
-
-/// An item and all sets that hold it, at any depth.
-pub fn above<'a>(
-    alloc: Global,
-    document: &'a Table,
-    name: &'a str,
-) -> Result<Vec<&'a str>, AllocError> {
-    let mut names = Vec::new(alloc);
-    names.push(name)?;
-    for at in 0..item_count(document) {
-        let Some(holder) = names.as_slice().get(at).copied() else {
-            break;
-        };
-        if let Some((_, _, table)) = item_named(document, holder, 0) {
-            add_sets(&mut names, table)?;
-        }
-    }
-    Ok(names)
-}
-
-// Adds the sets that an item is in, where they aren't there yet.
-fn add_sets<'a>(names: &mut Vec<&'a str>, table: &'a Table) -> Result<(), AllocError> {
-    let items = items_at(table, "in");
-    for number in 0..items.len() {
-        let set = item_text(items, number);
-        if !has_word(names.as_slice(), set) {
-            names.push(set)?;
-        }
-    }
-    Ok(())
 }
 
 /// The condition text of this number, those of sets first: the item, the number of the text there, and the text.

@@ -48,6 +48,7 @@ pub enum KeyReason<'a> {
     /// The value, or an item of its array, isn't what the key wants.
     Mistyped {
         key: &'a str,
+        item: Option<usize>,
         owner: Owner<'a>,
         wants: Wants,
         value: &'a Value,
@@ -79,8 +80,12 @@ pub enum Help<'a> {
     Bracket(&'a str),
     /// To write two brackets for one round a header.
     Double(&'a str),
-    /// To give a component the fields of its kind.
+    /// To give a component the values of its kind.
+    Component(Kind),
+    /// To name a field of a kind.
     Fields(Kind),
+    /// To insert the values of a kind.
+    Insert(Kind),
     /// To have a term of a kind in a query.
     Term(&'static str, Kind),
     /// To give a key a number of 32 bits.
@@ -110,11 +115,15 @@ impl fmt::Display for KeyReason<'_> {
             KeyReason::Missing { key, owner } => write!(f, "{owner} has no `{key}`"),
             KeyReason::Mistyped {
                 key,
+                item,
                 owner,
                 wants,
                 value,
             } => {
                 let has = words_of(value);
+                if let Some(item) = item {
+                    write!(f, "item {item} of ")?;
+                }
                 write!(f, "`{key}` of {owner} wants {wants}, and has {has}")
             }
             KeyReason::NoName(text) => write!(f, "`{text}` is no name"),
@@ -123,7 +132,7 @@ impl fmt::Display for KeyReason<'_> {
             }
             KeyReason::WrongCount(kind, count) => {
                 let (name, width) = (kind.name(), kind.width());
-                write!(f, "`{name}` has {width} fields, here are {count}")
+                write!(f, "`{name}` takes {width}, and here are {count}")
             }
             KeyReason::OutOfRange(_, number) => write!(f, "{number} is out of range"),
             KeyReason::Both(owner) => write!(f, "{owner} has both `each` and `events`"),
@@ -196,12 +205,13 @@ impl<'a> KeyReason<'a> {
                 owner,
                 wants,
                 value,
+                ..
             } => help_of_type(key, owner, wants, value),
             KeyReason::NoName(_) => {
                 Help::Words("a name has 1 to 32 characters of a-z, 0-9 and _, the first a letter")
             }
             KeyReason::NotNamed(names, word) => Help::Near(names, word),
-            KeyReason::WrongCount(kind, _) => Help::Fields(kind),
+            KeyReason::WrongCount(kind, _) => Help::Component(kind),
             KeyReason::OutOfRange(key, _) => Help::Range(key),
             KeyReason::Both(_) => Help::Words("make two blocks of it"),
         }
@@ -225,6 +235,10 @@ fn help_of_type<'a>(key: &'a str, owner: Owner<'a>, wants: Wants, value: &'a Val
             Help::Bracket(text)
         }
         (Wants::Tables, None) if is_table => Help::Double(key),
+        (Wants::Integers, _) => match Kind::named(key) {
+            Some(kind) => Help::Component(kind),
+            None => Help::None,
+        },
         _ => Help::Write(wants.example()),
     }
 }

@@ -1,18 +1,18 @@
 // The names and texts for which a schedule is refused.
 
 use crate::build_reason::BuildReason;
+use crate::conflicts::of_conflict;
 use crate::finding::Found;
+use crate::index::Index;
 use crate::keys::item_text;
 use crate::names::Names;
 use crate::orders::{
-    above, condition_at, first_order, item_at, item_count, item_named, name_of, named_at,
+    condition_at, first_order, item_at, item_count, item_named, name_of, named_at,
 };
 use crate::owner::{Owner, items_at, table_of};
 use crate::reason::Reason;
 use crate::target::{Label, Mark, Target};
-use crate::terms::{
-    EXCLUDING, FETCHING, REQUIRING, TOUCHING, WRITING, has_term, query_in, term_with,
-};
+use crate::terms::{EXCLUDING, FETCHING, REQUIRING, query_in, term_with};
 use crate::word::Word;
 use kinds::Kind;
 use program_file::Place;
@@ -42,7 +42,19 @@ const MOST_QUERIES: usize = 8;
 const MOST_IDS: i64 = 1024;
 
 /// What is found in a document of which the schedule is refused.
-pub fn of_fault<'a>(document: &'a Table, fault: &'a BuildFault) -> Option<Found<'a>> {
+pub fn of_fault<'a>(
+    alloc: Global,
+    document: &'a Table,
+    fault: &'a BuildFault,
+) -> Result<Option<Found<'a>>, AllocError> {
+    match fault {
+        BuildFault::SelfConflict(name) => of_conflict(alloc, document, name),
+        other => Ok(of_declarations(document, other)),
+    }
+}
+
+// The same of a fault that is told of declarations as they stand.
+fn of_declarations<'a>(document: &'a Table, fault: &'a BuildFault) -> Option<Found<'a>> {
     match fault {
         BuildFault::UnknownName(name) => of_unknown(document, name),
         BuildFault::DuplicateName(name) => of_twice(document, name),
@@ -56,7 +68,6 @@ pub fn of_fault<'a>(document: &'a Table, fault: &'a BuildFault) -> Option<Found<
             second,
             system,
         } => of_sharing(document, first, second, system),
-        BuildFault::SelfConflict(name) => of_conflict(document, name),
         BuildFault::BadQuery { owner, query, case } => of_query(document, owner, *query, *case),
         BuildFault::BadConditionQuery {
             condition,
@@ -65,7 +76,7 @@ pub fn of_fault<'a>(document: &'a Table, fault: &'a BuildFault) -> Option<Found<
         } => of_condition_query(document, *condition, *query, *case),
         BuildFault::ConditionWrites(condition) => of_writes(document, *condition),
         BuildFault::OverLimit(limit) => of_limit(document, *limit),
-        BuildFault::Memory => None,
+        BuildFault::SelfConflict(_) | BuildFault::Memory => None,
     }
 }
 
@@ -77,17 +88,17 @@ fn of_names(reason: BuildReason<'_>) -> Found<'_> {
 /// What is marked for a step of the circle of a reason, by its number: an item in a set, or an order.
 pub fn mark_of_step<'a>(
     alloc: Global,
-    document: &'a Table,
+    index: &Index<'a>,
     reason: BuildReason<'a>,
     at: usize,
 ) -> Result<Option<Mark<'a>>, AllocError> {
     let (item, next) = step_of(reason.circle(), at);
     let (target, label) = match reason {
         BuildReason::Cycle(_) => (
-            order_of(alloc, document, item, next)?,
+            order_of(alloc, index, item, next)?,
             Label::Order(item, next),
         ),
-        _ => (set_of(document, item, next), Label::In(item, next)),
+        _ => (set_of(index.document, item, next), Label::In(item, next)),
     };
     match target {
         Some(target) => Ok(Some(Mark { target, label })),
@@ -157,16 +168,16 @@ fn of_loop<'a>(document: &'a Table, name: &'a str) -> Option<Found<'a>> {
 
 // An item that is ordered with itself.
 fn of_self_order<'a>(document: &'a Table, name: &'a str) -> Option<Found<'a>> {
-    let target = first_order(document, &[name], &[name])?;
+    let target = first_order(document, name, name)?;
     let reason = BuildReason::OrderedWithItself(name);
     Some(Found::of(Reason::Build(reason), target))
 }
 
 // An item that is ordered with a set that holds it.
 fn of_holder<'a>(document: &'a Table, item: &'a str, set: &'a str) -> Option<Found<'a>> {
-    let target = match first_order(document, &[item], &[set]) {
+    let target = match first_order(document, item, set) {
         Some(target) => target,
-        None => first_order(document, &[set], &[item])?,
+        None => first_order(document, set, item)?,
     };
     let reason = BuildReason::WithHolder(item, set);
     Some(Found::of(Reason::Build(reason), target))
@@ -179,7 +190,7 @@ fn of_sharing<'a>(
     second: &'a str,
     system: &'a str,
 ) -> Option<Found<'a>> {
-    let target = first_order(document, &[first], &[second])?;
+    let target = first_order(document, first, second)?;
     let reason = BuildReason::Sharing(first, second, system);
     let found = Found::of(Reason::Build(reason), target);
     match item_named(document, system, 0) {
@@ -191,110 +202,20 @@ fn of_sharing<'a>(
 // Where an item is ordered before another: itself, or a set that holds it.
 fn order_of<'a>(
     alloc: Global,
-    document: &'a Table,
-    first: &'a str,
-    second: &'a str,
+    index: &Index<'a>,
+    first: &str,
+    second: &str,
 ) -> Result<Option<Target<'a>>, AllocError> {
-    let target = first_order(document, &[first], &[second]);
+    let target = first_order(index.document, first, second);
     if target.is_some() {
         return Ok(target);
     }
-    let firsts = above(alloc, document, first)?;
-    let seconds = above(alloc, document, second)?;
-    Ok(first_order(document, firsts.as_slice(), seconds.as_slice()))
+    let firsts = index.holders(alloc, first)?;
+    let seconds = index.holders(alloc, second)?;
+    Ok(index.order_between(firsts.as_slice(), seconds.as_slice()))
 }
 
-// ---- queries and parameters
-
-// Two parameters of a system that conflict.
-fn of_conflict<'a>(document: &'a Table, name: &'a str) -> Option<Found<'a>> {
-    let (_, owner, table) = item_named(document, name, 0)?;
-    for (written, read) in [("res_mut", "res"), ("writes", "reads")] {
-        let found = of_touched(owner, table, written, read);
-        if found.is_some() {
-            return found;
-        }
-    }
-    let queries = items_at(table, "query");
-    for second in 0..queries.len() {
-        for first in 0..second {
-            if let Some(found) = of_meeting(owner, queries, first, second) {
-                return Some(found);
-            }
-        }
-    }
-    let reason = Reason::Build(BuildReason::Conflict(name));
-    Some(Found::of(reason, name_of(owner, table)))
-}
-
-// A resource or event kind that is written and named twice.
-fn of_touched<'a>(
-    owner: Owner<'a>,
-    table: &'a Table,
-    written: &'static str,
-    read: &'static str,
-) -> Option<Found<'a>> {
-    let items = items_at(table, written);
-    for number in 0..items.len() {
-        let word = item_text(items, number);
-        let beside = match named_at(owner, table, read, word) {
-            Some(target) => Some(target),
-            None => named_at(owner, table, written, word),
-        };
-        if let Some(beside) = beside {
-            if beside.key == read || beside.item != Some(number) {
-                let reason = Reason::Build(BuildReason::TouchedTwice(owner.name, word));
-                let target = Target::text(owner, written, Some(number), word);
-                return Some(Found::of(reason, target).beside(beside, "and here"));
-            }
-        }
-    }
-    None
-}
-
-// Two queries that an entity can match, and that conflict on a kind.
-fn of_meeting<'a>(
-    owner: Owner<'a>,
-    queries: &'a [Value],
-    first: usize,
-    second: usize,
-) -> Option<Found<'a>> {
-    let (one, other) = (item_text(queries, first), item_text(queries, second));
-    if are_apart(one, other) {
-        return None;
-    }
-    for kind in Kind::ALL {
-        let name = kind.name();
-        let (words, others) = if has_term(one, WRITING, name) {
-            (WRITING, TOUCHING)
-        } else {
-            (TOUCHING, WRITING)
-        };
-        let there = term_with(Word::whole(one), words, name);
-        let beside = term_with(Word::whole(other), others, name);
-        if let (Some((term, _)), Some((with, _))) = (there, beside) {
-            let reason = BuildReason::Meets(owner.name, first, second, kind);
-            let target = Target::text(owner, "query", Some(first), one);
-            let found = Found::of(Reason::Build(reason), target.within(term));
-            let target = Target::text(owner, "query", Some(second), other);
-            return Some(found.beside(target.within(with), "and here"));
-        }
-    }
-    None
-}
-
-// Whether one of two queries requires a kind that the other excludes.
-fn are_apart(one: &str, other: &str) -> bool {
-    for kind in Kind::ALL {
-        let name = kind.name();
-        if has_term(one, REQUIRING, name) && has_term(other, EXCLUDING, name)
-            || has_term(other, REQUIRING, name) && has_term(one, EXCLUDING, name)
-        {
-            return true;
-        }
-    }
-    false
-}
+// ---- queries of systems and conditions
 
 // A query of a system that is at fault.
 fn of_query<'a>(document: &'a Table, owner: &'a str, query: usize, case: u32) -> Option<Found<'a>> {

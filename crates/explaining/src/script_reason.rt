@@ -99,10 +99,13 @@ impl<'a> ScriptReason<'a> {
             }
             ScriptReason::WrongValues(kind) => {
                 let (kind, width) = (kind.name(), kind.width());
-                write!(f, "`insert` of `{kind}` wants {width} values")
+                write!(
+                    f,
+                    "`insert` of `{kind}` wants a value for each field, {width}"
+                )
             }
             ScriptReason::PastEnd(passed, behind) => {
-                write!(f, "{passed} are passed over, and {behind} come behind")
+                write!(f, "it passes over {passed}, of {behind} that come behind")
             }
             ScriptReason::NoRegister(word) => write!(f, "there is no register `{word}`"),
             ScriptReason::NoCommands(word) => {
@@ -135,7 +138,8 @@ impl<'a> ScriptReason<'a> {
             ScriptReason::ResUnread(_) => Help::Words("add it to `res`"),
             ScriptReason::ResUnwritten(_) => Help::Words("add it to `res_mut`"),
             ScriptReason::EventUnwritten(_) => Help::Words("add it to `writes`"),
-            ScriptReason::NoField(kind, _) | ScriptReason::WrongValues(kind) => Help::Fields(kind),
+            ScriptReason::NoField(kind, _) => Help::Fields(kind),
+            ScriptReason::WrongValues(kind) => Help::Insert(kind),
             ScriptReason::PastEnd(..) => Help::Words("pass over fewer"),
             ScriptReason::NoRegister(_) => Help::Words("registers are `r0` to `r7`"),
             ScriptReason::NoCommands(_) => Help::Add("spawns", "0"),

@@ -16,6 +16,9 @@ use script::check::place;
 use script::{Cause, Source};
 use toml::{Table, Value};
 
+// So many words of an instruction are looked at; none takes more than five.
+const MOST_WORDS: usize = 64;
+
 // How many registers a system has.
 const REGISTERS: u32 = 8;
 
@@ -123,8 +126,10 @@ impl<'a> Scope<'a> {
     fn of_code(self, cause: Cause) -> Option<Found<'a>> {
         let items = items_at(self.block, "code");
         let text = item_text(items, self.instruction);
-        let Wrong { word, reason } = self.of_words(cause, Word::whole(text))?;
         let target = Target::text(self.owner, "code", Some(self.instruction), text);
+        let Some(Wrong { word, reason }) = self.of_words(cause, Word::whole(text)) else {
+            return Some(Found::of(Reason::Other("an instruction is refused"), target));
+        };
         let found = Found::of(Reason::Script(reason), target.within(word));
         match (reason, self.query_target()) {
             (ScriptReason::NotFetched(..) | ScriptReason::NotMut(..), Some(query)) => {
@@ -153,7 +158,7 @@ impl<'a> Scope<'a> {
         let form = form_of(first.text)?;
         let mut rest = words;
         let mut count = 0usize;
-        for _ in 0..text.text.len() {
+        for _ in 0..MOST_WORDS {
             let (word, more) = rest.first();
             if word.is_empty() {
                 break;

@@ -1,7 +1,9 @@
 // What is found, as it is told: a headline, an excerpt, and what to do.
 
+use crate::build_reason::BuildReason;
 use crate::finding::Found;
 use crate::help::text_of_help;
+use crate::index::Index;
 use crate::reason::Reason;
 use crate::schedules::mark_of_step;
 use crate::site::Site;
@@ -11,6 +13,12 @@ use text_marks::marks::mark_of;
 use text_marks::shown::shown;
 use text_marks::{Excerpt, Span};
 use toml::Table;
+
+// How many characters of a headline, and of what to do, are told at most.
+const MOST_TOLD: usize = 400;
+
+// How many steps of a circle are marked at most.
+const MOST_STEPS: usize = 12;
 
 /// What is told of a file with these bytes at a path that are no document: the headline, the excerpt, what to do, each in lines of its own, and the
 /// beginning of one line more.
@@ -40,12 +48,27 @@ pub fn text_of_document(
     add_mark(alloc, &mut excerpt, &site, found.first)?;
     add_mark(alloc, &mut excerpt, &site, found.second)?;
     if let Reason::Build(reason) = found.reason {
-        for at in 0..reason.circle().len() {
-            let mark = mark_of_step(alloc, document, reason, at)?;
-            add_mark(alloc, &mut excerpt, &site, mark)?;
+        if !reason.circle().is_empty() {
+            add_steps(alloc, &mut excerpt, &site, document, reason)?;
         }
     }
     text_of(alloc, excerpt, path, found.reason)
+}
+
+// Adds a mark for each step of the circle of a reason, of many for the first ones.
+fn add_steps<'a>(
+    alloc: Global,
+    excerpt: &mut Excerpt<'a>,
+    site: &Site<'a>,
+    document: &Table,
+    reason: BuildReason<'_>,
+) -> Result<(), AllocError> {
+    let index = Index::of(alloc, document)?;
+    for at in 0..reason.circle().len().min(MOST_STEPS) {
+        let mark = mark_of_step(alloc, &index, reason, at)?;
+        add_mark(alloc, excerpt, site, mark)?;
+    }
+    Ok(())
 }
 
 // What is told of a reason, with an excerpt.
@@ -58,12 +81,28 @@ fn text_of(
     let mut around = excerpt;
     let gutter = around.gutter();
     let headline = format!(in alloc; "{reason}")?;
-    let mut text = shown(alloc, headline.as_bytes())?;
-    text.push_str("\n")?;
+    let headline = shown(alloc, headline.as_bytes())?;
+    let mut text = String::new(alloc);
+    push_line(&mut text, headline.as_str())?;
     around.push(alloc, &mut text, path)?;
     push_help(alloc, &mut text, gutter, reason)?;
     push_gutter(&mut text, gutter)?;
     Ok(text)
+}
+
+// Adds a line of words, of a long one the beginning.
+fn push_line(text: &mut String, words: &str) -> Result<(), AllocError> {
+    let mut rest = words.chars();
+    for _ in 0..MOST_TOLD {
+        match rest.next() {
+            Some(char) => text.push(char)?,
+            None => return text.push_str("\n"),
+        }
+    }
+    match rest.next() {
+        Some(_) => text.push_str("...\n"),
+        None => text.push_str("\n"),
+    }
 }
 
 // Adds what to do about a reason, where that is known.
@@ -79,7 +118,8 @@ fn push_help(
     }
     push_gutter(text, gutter)?;
     let line = shown(alloc, help.as_bytes())?;
-    writeln!(text, " = help: {line}")
+    text.push_str(" = help: ")?;
+    push_line(text, line.as_str())
 }
 
 // Adds a mark, where it is found in the file.

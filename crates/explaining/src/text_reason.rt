@@ -201,6 +201,9 @@ fn help_of_term(word: &str) -> Help<'_> {
     if Kind::named(word).is_some() {
         return Help::Words("a word stands before a kind: `read K`, or `mut K` to write it");
     }
+    if word == "write" {
+        return Help::Words("write `mut K`, which reads and writes");
+    }
     match word.strip_prefix('&') {
         Some("mut") => Help::Words("write `mut K` for `&mut K`"),
         Some(_) => Help::Words("write `read K` for `&K`, and `mut K` for `&mut K`"),

@@ -1,4 +1,3 @@
-use Rattle.std.proofs.Common.{ℕ}
 use Rattle.explaining.specs.Near.{IsNearest}
 use Rattle.explaining.proofs.names.nearest_of.Given as goal
 
