@@ -78,6 +78,15 @@ impl fmt::Display for BuildReason<'_> {
                 let names = Listed(names);
                 write!(f, "these wait for one another: {names}")
             }
+            other => other.write_orders(f),
+        }
+    }
+}
+
+impl<'a> BuildReason<'a> {
+    // The same of orders with sets.
+    fn write_orders<W: fmt::Write>(&self, f: &mut fmt::Formatter<W>) -> fmt::Result {
+        match self {
             BuildReason::WithHolder(item, set) => {
                 write!(f, "`{item}` is ordered with `{set}`, which holds it")
             }
@@ -90,9 +99,7 @@ impl fmt::Display for BuildReason<'_> {
             other => other.write_other(f),
         }
     }
-}
 
-impl<'a> BuildReason<'a> {
     // The same of parameters and limits.
     fn write_other<W: fmt::Write>(&self, f: &mut fmt::Formatter<W>) -> fmt::Result {
         match self {

@@ -41,7 +41,7 @@ const CHANGE: &[Operand] = &[Operand::Target, Operand::Source];
 
 const COMPARE: &[Operand] = &[Operand::Source, Operand::Source, Operand::Count];
 
-const FORMS: [Form; 15] = [
+const FORMS: &[Form] = &[
     Form {
         word: "set",
         operands: CHANGE,
@@ -141,7 +141,7 @@ pub fn of_instruction<'t>(text: Word<'t>) -> Option<Blame<'t>> {
 pub fn form_of(word: &str) -> Option<Form> {
     for form in FORMS {
         if form.word == word {
-            return Some(form);
+            return Some(*form);
         }
     }
     None

@@ -496,11 +496,28 @@ const E6: &str = r#"`refused E6`: the body of a system refused, which no script 
 
 /// What a code of a refusal means, in lines of their own, with examples; None of a word that is no code.
 pub fn meaning_of(code: &str) -> Option<&'static str> {
+    match code.as_bytes().first() {
+        Some(b'P') => file_meaning(code),
+        Some(b'B') => build_meaning(code),
+        Some(b'X') => script_meaning(code),
+        _ => trace_meaning(code),
+    }
+}
+
+// The same of a code of a document.
+fn file_meaning(code: &str) -> Option<&'static str> {
     match code {
         "P1" => Some(P1),
         "P2" => Some(P2),
         "P3" => Some(P3),
         "P4" => Some(P4),
+        _ => None,
+    }
+}
+
+// The same of a code of the builder.
+fn build_meaning(code: &str) -> Option<&'static str> {
+    match code {
         "B1" => Some(B1),
         "B2" => Some(B2),
         "B3" => Some(B3),
@@ -513,12 +530,26 @@ pub fn meaning_of(code: &str) -> Option<&'static str> {
         "B10" => Some(B10),
         "B11" => Some(B11),
         "B12" => Some(B12),
+        _ => None,
+    }
+}
+
+// The same of a code of a script.
+fn script_meaning(code: &str) -> Option<&'static str> {
+    match code {
         "X1" => Some(X1),
         "X2" => Some(X2),
         "X3" => Some(X3),
         "X4" => Some(X4),
         "X5" => Some(X5),
         "X6" => Some(X6),
+        _ => None,
+    }
+}
+
+// The same of a code of a trace, of one of its steps, or of a run.
+fn trace_meaning(code: &str) -> Option<&'static str> {
+    match code {
         "L1" => Some(L1),
         "L2" => Some(L2),
         "L3" => Some(L3),

@@ -9,8 +9,8 @@ use parsing::integer::read_integer;
 // How deep `not`, `and` and `or` may nest.
 const DEEPEST: u32 = 16;
 
-/// The conditions, and a form of each.
-pub const FORMS: [(&str, &str); 9] = [
+// The conditions, and a form of each.
+const FORMS: &[(&str, &str)] = &[
     ("run_once", "run_once"),
     ("resource_equals", "resource_equals(Mode, 1)"),
     ("resource_at_least", "resource_at_least(Mode, 1)"),
@@ -169,8 +169,8 @@ impl<'t> Reader<'t> {
 // The form of a condition.
 fn form_of(word: &str) -> Option<&'static str> {
     for (name, form) in FORMS {
-        if name == word {
-            return Some(form);
+        if *name == word {
+            return Some(*form);
         }
     }
     None

@@ -37,21 +37,30 @@ pub fn of_conflict<'a>(
     let Some((_, owner, table)) = item_named(document, name, 0) else {
         return Ok(None);
     };
-    for (written, read) in [("res_mut", "res"), ("writes", "reads")] {
-        let found = of_touched(owner, table, written, read);
-        if found.is_some() {
-            return Ok(found);
-        }
-    }
     let queries = items_at(table, "query");
-    let params = params_of(alloc, queries)?;
-    match first_meeting(params.as_slice()) {
-        Some(meeting) => Ok(Some(of_meeting(owner, queries, meeting))),
-        None => {
-            let reason = Reason::Build(BuildReason::Conflict(name));
-            Ok(Some(Found::of(reason, name_of(owner, table))))
+    let meeting = first_meeting_in(alloc, queries)?;
+    Ok(Some(of_system(owner, table, meeting)))
+}
+
+// The parameters of a system that conflict: what it names twice, two queries, or what isn't known.
+fn of_system<'a>(owner: Owner<'a>, table: &'a Table, meeting: Option<Meeting>) -> Found<'a> {
+    let found = of_touched(owner, table, "res_mut", "res").or(of_touched(
+        owner, table, "writes", "reads",
+    ));
+    match (found, meeting) {
+        (Some(found), _) => found,
+        (None, Some(meeting)) => of_meeting(owner, items_at(table, "query"), meeting),
+        (None, None) => {
+            let reason = Reason::Build(BuildReason::Conflict(owner.name));
+            Found::of(reason, name_of(owner, table))
         }
     }
+}
+
+// The first two queries that conflict.
+fn first_meeting_in(alloc: Global, queries: &[Value]) -> Result<Option<Meeting>, AllocError> {
+    let params = params_of(alloc, queries)?;
+    Ok(first_meeting(params.as_slice()))
 }
 
 // A resource or event kind that is written and named twice.
@@ -92,7 +101,7 @@ fn params_of(alloc: Global, queries: &[Value]) -> Result<Vec<Params>, AllocError
     Ok(params)
 }
 
-// The first two queries that conflict.
+// The first two of these that conflict.
 fn first_meeting(params: &[Params]) -> Option<Meeting> {
     for second in 1..params.len() {
         for first in 0..second {

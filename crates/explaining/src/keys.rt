@@ -144,29 +144,39 @@ fn of_blocks<'a>(owner: Owner<'a>, system: &'a Table) -> Option<Found<'a>> {
 // What is refused of a table whose keys are those of a schema: a key that is none of them, one that isn't there, two that exclude one another, a value.
 fn of_table<'a>(owner: Owner<'a>, table: &'a Table, schema: Schema) -> Option<Found<'a>> {
     if let Some(key) = unknown_in(table, schema.rules) {
-        let reason = KeyReason::Unknown {
-            key,
-            owner,
-            rules: schema.rules,
-        };
-        return Some(Found::of(Reason::Key(reason), Target::key(owner, key)));
+        return Some(unknown(owner, key, schema.rules));
     }
     let required = schema.required;
     if !required.is_empty() && !table.contains_key(required) {
-        let reason = KeyReason::Missing {
-            key: required,
-            owner,
-        };
-        return Some(Found::of(Reason::Key(reason), Target::table(owner)));
+        return Some(missing(owner, required));
     }
     if owner.block.is_some() && table.contains_key("each") && table.contains_key("events") {
-        let found = Found::of(
-            Reason::Key(KeyReason::Both(owner)),
-            Target::key(owner, "each"),
-        );
-        return Some(found.beside(Target::key(owner, "events"), "and here"));
+        return Some(both(owner));
     }
     of_rules(owner, table, schema.rules)
+}
+
+// A key that is none of these.
+fn unknown<'a>(
+    owner: Owner<'a>,
+    key: &'a str,
+    rules: &'static [(&'static str, Wants)],
+) -> Found<'a> {
+    let reason = KeyReason::Unknown { key, owner, rules };
+    Found::of(Reason::Key(reason), Target::key(owner, key))
+}
+
+// A key that isn't there.
+fn missing<'a>(owner: Owner<'a>, key: &'static str) -> Found<'a> {
+    let reason = KeyReason::Missing { key, owner };
+    Found::of(Reason::Key(reason), Target::table(owner))
+}
+
+// Two keys that exclude one another.
+fn both<'a>(owner: Owner<'a>) -> Found<'a> {
+    let reason = Reason::Key(KeyReason::Both(owner));
+    let found = Found::of(reason, Target::key(owner, "each"));
+    found.beside(Target::key(owner, "events"), "and here")
 }
 
 // The first key of a table that is none of these.

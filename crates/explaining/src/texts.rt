@@ -42,17 +42,31 @@ pub fn of_place<'a>(
             return Ok(found);
         }
     }
-    for (block, value) in items_at(table, "do").iter().enumerate() {
-        let code = match value.as_table() {
-            Some(table) => items_at(table, "code"),
-            None => &[],
-        };
+    of_blocks(alloc, owner, items_at(table, "do"))
+}
+
+// What is refused of the texts of some blocks.
+fn of_blocks<'a>(
+    alloc: Global,
+    owner: Owner<'a>,
+    blocks: &'a [Value],
+) -> Result<Option<Found<'a>>, AllocError> {
+    for block in 0..blocks.len() {
+        let code = code_of(&blocks[block]);
         let found = of_texts(alloc, owner.with_block(block), "code", code, Form::Code)?;
         if found.is_some() {
             return Ok(found);
         }
     }
     Ok(None)
+}
+
+// The code of a block, none where it is no table.
+fn code_of(block: &Value) -> &[Value] {
+    match block.as_table() {
+        Some(table) => items_at(table, "code"),
+        None => &[],
+    }
 }
 
 // What is refused of some texts.
