@@ -3,6 +3,7 @@ pub mod Asked
 pub mod Drawings
 pub mod Explained
 pub mod Found
+pub mod Meanings
 pub mod Refusals
 pub mod Style
 pub mod Unasked

@@ -103,7 +103,7 @@ const GRAMMAR: Grammar = Grammar {
         },
         Subcommand {
             name: "explain",
-            about: "prints why a program file is refused, where, and what to do: ecsview explain arena.toml",
+            about: "prints why a program file is refused, where, and what to do: ecsview explain arena.toml; or what a code means: ecsview explain P2",
             arguments: &[FILE],
         },
     ],

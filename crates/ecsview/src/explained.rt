@@ -134,7 +134,7 @@ fn found_in<'a>(
 ) -> Result<Found<'a>, AllocError> {
     match fault {
         Fault::Content(fault) => explain::of_content(alloc, document, *fault),
-        Fault::Build(fault) => Ok(explain::of_build(document, fault)),
+        Fault::Build(fault) => explain::of_build(alloc, document, fault),
         Fault::Script {
             cause,
             system,
