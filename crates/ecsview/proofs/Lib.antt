@@ -1,3 +1,4 @@
 pub mod Divergences
+pub mod Explanations
 pub mod PairTexts
 pub mod Lines

@@ -7,7 +7,7 @@ use Rattle.command_line.specs.Grammar.{command, number, positional, program}
 use Rattle.command_line.specs.Values.{number_between, value_of}
 use Rattle.ecsview.specs.declared.args.Args.{Args}
 use Rattle.ecsview.specs.declared.args.Work.{Work}
-use Rattle.ecsview.specs.declared.args.Work.TheVariants.{Schedule, Lanes, Races, Diverge, Steps}
+use Rattle.ecsview.specs.declared.args.Work.TheVariants.{Schedule, Lanes, Races, Diverge, Steps, Explain}
 
 -- the commands of `ecsview`: what the parser takes of their arguments
 abbrev pub ecsview_program : App
@@ -17,6 +17,7 @@ ecsview_program = program (codes "ecsview") (
     ∷ command (codes "races") (positional (codes "file") ∷ [])
     ∷ command (codes "diverge") (positional (codes "file") ∷ positional (codes "trace") ∷ positional (codes "other") ∷ [])
     ∷ command (codes "steps") (positional (codes "file") ∷ positional (codes "trace") ∷ number (codes "run") (codes "run") 1 4294967295 ∷ [])
+    ∷ command (codes "explain") (positional (codes "file") ∷ [])
     ∷ [])
 
 -- the work, and the paths of the program file and of one or two traces, each empty where none is named
@@ -56,7 +57,8 @@ work_asked name rows = if bytes_eq name (codes "schedule") then Some Schedule
     else (if bytes_eq name (codes "lanes") then Some Lanes
     else (if bytes_eq name (codes "races") then Some Races
     else (if bytes_eq name (codes "diverge") then Some Diverge
-    else (if bytes_eq name (codes "steps") then steps_asked (first_of (codes "run") rows) else None))))
+    else (if bytes_eq name (codes "steps") then steps_asked (first_of (codes "run") rows)
+    else (if bytes_eq name (codes "explain") then Some Explain else None)))))
 
 abbrev pub asked_by : Text → List Row → Option Asked
 asked_by name rows = option_map (asked_on rows) (work_asked name rows)

@@ -33,7 +33,7 @@ meanings_of l = meanings_of_scripts l.built l.bodies.items
 
 -- what is said of a pair: its witness, or that none was found
 abbrev pub IsFindingText : List (List ℕ) → Pair → Option Witness → List ℕ → Type 0
-IsFindingText names pair None text = text ≡ codes "-- no witness" ++ 10 ∷ []
+IsFindingText names pair None text = text ≡ codes "-- no witness in the first run" ++ 10 ∷ []
 IsFindingText names pair (Some witness) text = IsWitnessText names pair witness text
 
 -- the text behind these pairs, where it is this before them: each adds its line, and what is said of it. A witness that is told is one, from this state

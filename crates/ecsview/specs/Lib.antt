@@ -1,7 +1,9 @@
 pub mod Answer
 pub mod Asked
 pub mod Drawings
+pub mod Explained
 pub mod Found
+pub mod Meanings
 pub mod Refusals
 pub mod Style
 pub mod Unasked

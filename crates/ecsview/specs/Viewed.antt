@@ -3,7 +3,7 @@ use Rattle.std.specs.Prelude.{ℕ, ◌≡◌, ◌⊎◌, List, Option, string_by
 use Rattle.program.specs.declared.fault.Fault.{Fault}
 use Rattle.program.specs.declared.fault.Fault.TheVariants.{Write}
 use Rattle.program.specs.Served.{HasGained, HasGainedFront, IsKept, Tells}
-use Rattle.ecsview.specs.Answer.{IsAnswerOn}
+use Rattle.ecsview.specs.Answer.{IsAnsweredOn}
 use Rattle.ecsview.specs.Refusals.{IsRefusalOn}
 use Rattle.ecsview.specs.declared.args.Work.{Work}
 use Rattle.ecsview.specs.declared.viewing.Shown.{Shown}
@@ -11,7 +11,7 @@ use Rattle.ecsview.specs.declared.viewing.Shown.{Shown}
 -- the text that the work answers was printed whole, the status is its status, and nothing is told
 pub record IsPrinted (opener rules : List ℕ) (work : Work) (file trace other : Option (List ℕ)) (status : ℕ) (out faults : Option (List ℕ) × Option (List ℕ)) : Type 0 where
   pub shown : Shown
-  pub is : IsAnswerOn opener rules work file trace other shown
+  pub is : IsAnsweredOn opener rules work file trace other shown
   pub ends : status ≡ shown.status
   pub written : HasGained out (string_bytes shown.text)
   pub untold : IsKept faults
@@ -19,7 +19,7 @@ pub record IsPrinted (opener rules : List ℕ) (work : Work) (file trace other :
 -- the output failed, which is told, and gained a beginning of the text
 pub record IsCutOff (opener rules : List ℕ) (work : Work) (file trace other : Option (List ℕ)) (status : ℕ) (out faults : Option (List ℕ) × Option (List ℕ)) : Type 0 where
   pub shown : Shown
-  pub is : IsAnswerOn opener rules work file trace other shown
+  pub is : IsAnsweredOn opener rules work file trace other shown
   pub written : HasGainedFront out (string_bytes shown.text)
   pub told : Tells Write status faults
 

@@ -24,6 +24,8 @@ pub enum Work {
     Diverge,
     /// The worlds after the sync points of a run of a trace, counted from 1, or of all.
     Steps(Option<u32>),
+    /// Why the file is refused.
+    Explain,
 }
 
 /// What a command line asks for: some work on the schedule that a file declares.
@@ -99,12 +101,17 @@ const GRAMMAR: Grammar = Grammar {
             about: "prints the world after each sync point of recorded runs: ecsview steps arena.toml arena.trace --run 2",
             arguments: &[FILE, TRACE, RUN],
         },
+        Subcommand {
+            name: "explain",
+            about: "prints why a program file is refused, where, and what to do: ecsview explain arena.toml; or what a code means: ecsview explain P2",
+            arguments: &[FILE],
+        },
     ],
 };
 
 impl<'a> Args<'a> {
     /// Reads the words of a command line, of which the first is the program's own name: `schedule FILE`, `lanes FILE TRACE`, `races FILE`,
-    /// `diverge FILE TRACE OTHER` or `steps FILE TRACE [--run N]`, where N is from 1 to 4,294,967,295, spelled in decimal digits alone. Where
+    /// `diverge FILE TRACE OTHER`, `steps FILE TRACE [--run N]` or `explain FILE`, where N is from 1 to 4,294,967,295, spelled in decimal digits alone. Where
     /// `--help` stands in a line it is asked for, whatever else is at fault there.
     pub fn read(alloc: Global, words: &'a [String]) -> Result<Args<'a>, LineFault>
         ensures ok { IfOk result (λ args. asked_for asked_by ecsview_program words.now
@@ -173,6 +180,7 @@ fn work_of(name: &str, found: &ArgMatches<'_>) -> Option<Work>
         "races" => Some(Work::Races),
         "diverge" => Some(Work::Diverge),
         "steps" => steps_of(found),
+        "explain" => Some(Work::Explain),
         _ => None,
     }
 }

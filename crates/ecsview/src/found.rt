@@ -92,7 +92,7 @@ fn push_found(
     match found {
         Some(witness) => push_witness(alloc, text, names, pair, &witness),
         None => {
-            text.push_str("-- no witness\n")?;
+            text.push_str("-- no witness in the first run\n")?;
             Ok(())
         }
     }

@@ -1,7 +1,7 @@
 // The work of a command line, on readers and writers.
 
 ghost use Rattle.std.specs.Prelude.{IfErr, IfOk};
-ghost use Rattle.ecsview.specs.Answer.{IsAnswer, IsAnswerOn};
+ghost use Rattle.ecsview.specs.Answer.{IsAnswer, IsAnsweredOn};
 ghost use Rattle.ecsview.specs.Refusals.{IsRefusal, IsRefusalOn};
 ghost use Rattle.ecsview.specs.Style.{svg_opener, svg_rules};
 ghost use Rattle.ecsview.specs.Viewed.{IsViewed};
@@ -9,12 +9,15 @@ ghost use Rattle.program.specs.Setup.{AreScriptsOf};
 
 use crate::args::{Args, Work};
 use crate::drawings::{lanes_text, schedule_text};
+use crate::explained::{accepted_text, explained};
 use crate::found::{diverge_text, races_text, steps_text};
 use drawing::svg::{OPENER, RULES};
 use findings::Loaded;
 use findings::loading::load;
 use program::Fault;
-use program::serve::{document_in, tell};
+use program::file::bytes_of;
+use program::serve::tell;
+use program_file::document_of;
 use std::alloc::Global;
 use std::io::{Read, Write};
 use streams::writing::write_whole;
@@ -43,7 +46,7 @@ pub fn view<F: Read, O: Write, E: Write>(
         (F.remaining trace.old) (F.remaining other.old) result
         (O.contents out.old, O.contents out.new) (E.contents faults.old, E.contents faults.new) }
 {
-    let view = match view_of(alloc, args.work, file, trace, other) {
+    let view = match view_of(alloc, args, file, trace, other) {
         Ok(view) => view,
         Err(fault) => return tell(alloc, faults, &fault),
     };
@@ -53,23 +56,31 @@ pub fn view<F: Read, O: Write, E: Write>(
     }
 }
 
-// What is answered to some work on a program file.
+// What is answered to a command on a program file.
 fn view_of<F: Read>(
     alloc: Global,
-    work: Work,
+    args: &Args<'_>,
     file: &mut F,
     trace: &mut F,
     other: &mut F,
 ) -> Result<Shown, Fault>
-    ensures answered { IfOk result (IsAnswerOn OPENER.now RULES.now work (F.remaining file.old)
+    ensures answered { IfOk result (IsAnsweredOn OPENER.now RULES.now args.now.work
+        (F.remaining file.old) (F.remaining trace.old) (F.remaining other.old)) }
+    ensures refused { IfErr result (IsRefusalOn args.now.work (F.remaining file.old)
         (F.remaining trace.old) (F.remaining other.old)) }
-    ensures refused { IfErr result (IsRefusalOn work (F.remaining file.old) (F.remaining trace.old)
-        (F.remaining other.old)) }
 {
-    let document = document_in(alloc, file)?;
-    let loaded = load(alloc, &document)?;
-    let shown = answer(alloc, work, loaded, trace, other)?;
-    Ok(shown)
+    let bytes = match bytes_of(alloc, file) {
+        Ok(bytes) => bytes,
+        Err(fault) => return explained(alloc, args, &[], fault),
+    };
+    let document = match document_of(alloc, bytes.as_slice()) {
+        Ok(document) => document,
+        Err(fault) => return explained(alloc, args, bytes.as_slice(), Fault::from(fault)),
+    };
+    match load(alloc, &document) {
+        Ok(loaded) => answer(alloc, args.work, loaded, trace, other),
+        Err(fault) => explained(alloc, args, bytes.as_slice(), fault),
+    }
 }
 
 // The same on what a file declares.
@@ -105,6 +116,10 @@ fn answer<F: Read>(
         }
         Work::Steps(run) => {
             let text = steps_text(alloc, loaded.file, trace, run)?;
+            Ok(Shown { text, status: 0 })
+        }
+        Work::Explain => {
+            let text = accepted_text(alloc, &loaded.file.built)?;
             Ok(Shown { text, status: 0 })
         }
     }

@@ -61,7 +61,8 @@ impl<'a> Excerpt<'a> {
         digits(most)
     }
 
-    /// Adds the place of the first mark, as `PATH:LINE:COLUMN`, and below it each line with marks, once and in order, and what is marked of it.
+    /// Adds the place of the first mark, as `PATH:LINE:COLUMN`, and below it each line with marks, in order, and what is marked of it. A long line comes again
+    /// for a mark that isn't where it was shown.
     pub fn push(&mut self, alloc: Global, text: &mut String, path: &str) -> Result<(), AllocError> {
         let gutter = self.gutter();
         push_place(alloc, text, path, gutter, self.marks.as_slice())?;
@@ -78,7 +79,8 @@ impl<'a> Excerpt<'a> {
             is_cut: false,
         };
         for labelled in &self.marks {
-            if labelled.mark.line.number != number {
+            let is_new = labelled.mark.line.number != number;
+            if is_new || is_outside(alloc, window, labelled.mark)? {
                 number = labelled.mark.line.number;
                 window = push_line(alloc, text, gutter, labelled.mark)?;
             }
@@ -93,6 +95,15 @@ impl<'a> Excerpt<'a> {
 struct Window {
     skipped: usize,
     is_cut: bool,
+}
+
+// Whether a mark begins behind what is shown of its line.
+fn is_outside(alloc: Global, window: Window, mark: Mark<'_>) -> Result<bool, AllocError> {
+    if !window.is_cut {
+        return Ok(false);
+    }
+    let lead = shown(alloc, before(mark))?.as_str().chars().count();
+    Ok(lead >= window.skipped.saturating_add(MOST_SHOWN))
 }
 
 // Adds where the first of some marks is.

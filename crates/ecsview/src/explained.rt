@@ -1,0 +1,172 @@
+// Why a program file is refused, or that it is accepted.
+
+ghost use Rattle.std.specs.Prelude.{◌≡◌, ◌++◌, ◌⊎◌, ◌∷◌, [], codes, IfErr, IfOk, OnOk, string_bytes, true};
+ghost use Rattle.ecsview.specs.Explained.{IsAcceptedText, IsOfFile, IsToldOf, accepted_line, build_code, code_of, file_code, script_code};
+ghost use Rattle.program.specs.Fault.{fault_text};
+
+use crate::args::{Args, Work};
+use crate::viewing::Shown;
+use ambiguity_report::report::is_settled;
+use explaining::{Found, explain, telling};
+use program::Fault;
+use program_file::{FileFault, document_of};
+use schedule_builder::{BuildFault, Built};
+use script::{Cause, ScriptFault};
+use std::alloc::{AllocError, Global};
+use toml::Table;
+
+/// What is answered to some work on a file with these bytes that is refused with a fault: where the file is to be explained, why it is.
+pub fn explained(alloc: Global, args: &Args<'_>, bytes: &[u8], fault: Fault) -> Result<Shown, Fault>
+    ensures asked { OnOk result (args.now.work ≡ Work.Explain) }
+    ensures told { IfOk result (IsToldOf fault) }
+    ensures kept { IfErr result (λ told. (told ≡ fault) ⊎ (told ≡ Fault.Memory)) }
+{
+    match args.work {
+        Work::Explain if is_of_file(&fault) => {
+            let body = body_of(alloc, bytes, args.file, &fault)?;
+            let text = text_of_fault(alloc, &fault, body.as_str())?;
+            Ok(Shown { text, status: 1 })
+        }
+        _ => Err(fault),
+    }
+}
+
+// Whether a fault is one of a program file.
+fn is_of_file(fault: &Fault) -> bool
+    ensures { (result ≡ true) → IsOfFile fault.now }
+{
+    matches!(
+        fault,
+        Fault::TooLong | Fault::Content(_) | Fault::Build(_) | Fault::Script { .. }
+    )
+}
+
+// The text of a fault: its code, what is told of it, and its line.
+fn text_of_fault(alloc: Global, fault: &Fault, body: &str) -> Result<String, AllocError>
+    ensures { IfOk result (λ text. string_bytes text
+        ≡ codes "error[" ++ (code_of fault.now ++ (codes "]: " ++ (body.now
+        ++ (codes " = ecsrun: " ++ (fault_text fault.now ++ 10 ∷ [])))))) }
+{
+    let code = code_of(fault);
+    format!(in alloc; "error[{code}]: {body} = ecsrun: {fault}\n")
+}
+
+// The code of a fault.
+fn code_of(fault: &Fault) -> &'static str
+    ensures { result.now ≡ code_of fault.now }
+{
+    match fault {
+        Fault::TooLong => "P4",
+        Fault::Content(fault) => file_code(fault),
+        Fault::Build(fault) => build_code(fault),
+        Fault::Script { cause, .. } => script_code(*cause),
+        _ => "",
+    }
+}
+
+// The code of a fault of a document.
+fn file_code(fault: &FileFault) -> &'static str
+    ensures { result.now ≡ file_code fault.now }
+{
+    match fault {
+        FileFault::Document => "P1",
+        FileFault::Value(_) => "P2",
+        FileFault::Text(_) => "P3",
+        FileFault::Memory => "",
+    }
+}
+
+// The code of a fault of a schedule.
+fn build_code(fault: &BuildFault) -> &'static str
+    ensures { result.now ≡ build_code fault.now }
+{
+    match fault {
+        BuildFault::UnknownName(_) => "B1",
+        BuildFault::DuplicateName(_) => "B2",
+        BuildFault::HierarchyLoop(_) => "B3",
+        BuildFault::HierarchyCycle(_) => "B4",
+        BuildFault::DependencyLoop(_) => "B5",
+        BuildFault::DependencyCycle(_) => "B6",
+        BuildFault::CrossDependency { .. } => "B7",
+        BuildFault::SetsIntersect { .. } => "B8",
+        BuildFault::SelfConflict(_) => "B9",
+        BuildFault::BadQuery { .. } | BuildFault::BadConditionQuery { .. } => "B10",
+        BuildFault::ConditionWrites(_) => "B11",
+        BuildFault::OverLimit(_) => "B12",
+        BuildFault::Memory => "",
+    }
+}
+
+// The code of a fault of a script.
+fn script_code(cause: Cause) -> &'static str
+    ensures { result.now ≡ script_code cause }
+{
+    match cause {
+        Cause::NotFetched => "X1",
+        Cause::NotDeclared => "X2",
+        Cause::NoField => "X3",
+        Cause::PastEnd => "X4",
+        Cause::NoRegister => "X5",
+        Cause::NotGranted => "X6",
+    }
+}
+
+// What is told of a fault of a file with these bytes at a path, without its code and its line.
+fn body_of(alloc: Global, bytes: &[u8], path: &str, fault: &Fault) -> Result<String, AllocError> {
+    match document_of(alloc, bytes) {
+        Ok(document) => {
+            let found = found_in(alloc, &document, fault)?;
+            telling::text_of_document(alloc, bytes, &document, path, found)
+        }
+        Err(FileFault::Memory) => Err(AllocError),
+        Err(_) => {
+            let found = explain::of_bytes(alloc, bytes)?;
+            telling::text_of_bytes(alloc, bytes, path, found)
+        }
+    }
+}
+
+// What is found of a fault in a document.
+fn found_in<'a>(
+    alloc: Global,
+    document: &'a Table,
+    fault: &'a Fault,
+) -> Result<Found<'a>, AllocError> {
+    match fault {
+        Fault::Content(fault) => explain::of_content(alloc, document, *fault),
+        Fault::Build(fault) => explain::of_build(alloc, document, fault),
+        Fault::Script {
+            cause,
+            system,
+            block,
+            instruction,
+        } => {
+            let fault = ScriptFault {
+                cause: *cause,
+                block: *block,
+                instruction: *instruction,
+            };
+            Ok(explain::of_script(document, system.as_str(), fault))
+        }
+        _ => Ok(explain::of_length()),
+    }
+}
+
+/// What is answered where a file that is to be explained is accepted: whether its schedule is settled.
+pub fn accepted_text(alloc: Global, built: &Built) -> Result<String, AllocError>
+    ensures { IfOk result (λ text. IsAcceptedText built.now (string_bytes text)) }
+{
+    let settled = is_settled(built);
+    String::from_str(alloc, accepted_line(settled))
+}
+
+// The line of a file that is accepted, by whether its schedule is settled.
+fn accepted_line(settled: bool) -> &'static str
+    ensures { result.now ≡ accepted_line settled }
+{
+    if settled {
+        "accepted, and settled: all runs of it agree\n"
+    } else {
+        "accepted, and not settled: runs of it may differ\n"
+    }
+}
