@@ -55,7 +55,7 @@ fn gather(
 }
 
 /// Does the commands of the buffers of these numbers at a tick: one buffer after the other, each in its order of issue. An entity that several
-/// commands change is moved once. The number of commands that were passed over, cut at 2^62. Where an allocation fails nothing has changed.
+/// commands change is moved once. The number of commands that were skipped, cut at 2^62. Where an allocation fails nothing has changed.
 pub fn apply(
     alloc: Global,
     world: &mut World,

@@ -17,7 +17,8 @@ use std::io::{BufRead, Read, Write};
 use std::thread::Scope;
 use worker_pool::{Mode, NoGate, Workers};
 
-/// The session of a program file, which is to run with so many workers: its engine as its runs begin, and the greeting.
+/// The session of a program file, which is to run with this number of workers: its engine as its runs begin, and the
+/// greeting.
 pub fn session_of<F: Read>(
     alloc: Global,
     workers: u8,
@@ -33,8 +34,8 @@ pub fn session_of<F: Read>(
     Ok(Session::new(alloc, engine, file, greeting))
 }
 
-/// Plays a session to its end, its runs in the mode, and gives the exit status: 0 where it ended behind `quit` or at the end of the requests.
-/// What goes wrong is reported to `faults` in one line, with status 3.
+/// Plays a session to its end, its runs in the mode, and gives the exit status. It is 0 where the session ended
+/// behind `quit` or at the end of the requests. A failure is reported to `faults` in one line, with status 3.
 pub fn host<'s, M: Mode<'s>, R: BufRead, O: Write, E: Write>(
     alloc: Global,
     session: &mut Session<ScriptBody>,

@@ -63,7 +63,7 @@ impl EntityMeta {
         self.generation
     }
 
-    /// What the index is.
+    /// The status of the index.
     pub fn status(&self) -> Status
         ensures { status_of result ≡ self.now.status }
     {

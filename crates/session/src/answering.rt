@@ -25,8 +25,8 @@ use std::alloc::{AllocError, Global};
 use worker_pool::Mode;
 
 impl<B: Body> Session<B> {
-    /// Answers a request, its runs in the mode, by a crew whose workers stand wherever the mode has threads. Where the state is lost, as it is once
-    /// a run failed, only a greeting, going back, forgetting and quitting are answered.
+    /// Answers a request, its runs in the mode, by a crew whose workers stay wherever the mode has threads. Where the
+    /// state is lost, as it is once a run failed, only a greeting, going back, forgetting and quitting are answered.
     pub fn answer<'s, M: Mode<'s>>(
         &mut self,
         alloc: Global,

@@ -67,9 +67,10 @@ impl From<WriteFault> for PlayFault {
     }
 }
 
-/// Plays a session: reads requests, a line each and behind a `load` as many as it says, and writes the reply to each, whole and in one call where
-/// the writer takes it, before it reads the next one. It ends behind `quit`, or where the input ends; a last line without its end is not done, nor
-/// is a `load` behind which lines are wanting. Workers stand from the first run until the session ends.
+/// Plays a session. It reads requests, a line each and behind a `load` as many as it says. It writes the reply to
+/// each, whole and in one call where the writer takes it, before it reads the next one. It ends behind `quit`, or
+/// where the input ends. A last line without its end is not done, nor is a `load` behind which lines are wanting.
+/// Workers live from the first run until the session ends.
 pub fn play<'s, B: Body + 's, M: Mode<'s>, R: BufRead, O: Write>(
     alloc: Global,
     session: &mut Session<B>,
@@ -176,7 +177,7 @@ fn tell<O: Write>(out: &mut O, text: &mut String, reply: &Reply) -> Result<(), P
     Ok(())
 }
 
-/// What is replied to a line, its runs by a crew, and whether that is the last reply.
+/// The reply to a line, its runs by a crew, and whether that is the last reply.
 pub fn reply_to<'s, B: Body + 's, M: Mode<'s>>(
     alloc: Global,
     session: &mut Session<B>,

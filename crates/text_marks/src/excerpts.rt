@@ -14,11 +14,11 @@ const SHOWN_BEFORE: usize = 40;
 /// A mark, with what is said of it.
 #[derive(Debug, Drop)]
 pub struct Labelled<'a> {
-    /// What is marked.
+    /// The mark.
     pub mark: Mark<'a>,
     /// Whether the excerpt is of this mark: it has `^` below it, and others have `-`.
     pub is_first: bool,
-    /// What stands behind it, empty for nothing.
+    /// The text behind it, empty for none.
     pub label: String,
 }
 
@@ -61,7 +61,8 @@ impl<'a> Excerpt<'a> {
         digits(most)
     }
 
-    /// Adds the place of the first mark, as `PATH:LINE:COLUMN`, and below it each line with marks, once and in order, and what is marked of it.
+    /// Adds the place of the first mark, as `PATH:LINE:COLUMN`. Below it comes each line with marks, once and in
+    /// order, and its marks.
     pub fn push(&mut self, alloc: Global, text: &mut String, path: &str) -> Result<(), AllocError> {
         let gutter = self.gutter();
         push_place(alloc, text, path, gutter, self.marks.as_slice())?;
