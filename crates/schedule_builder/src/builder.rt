@@ -485,8 +485,8 @@ fn levelled(alloc: Global, systems: Vec<System>, levels: &[u32]) -> Result<Vec<S
 /// earlier item's name. Then come a set in itself, sets in a circle, and an item ordered with itself. Then come an
 /// order between an item and a set that holds it, two ordered sets that share a system, and a cycle of items. Then
 /// come a system of which two parameters conflict, a query at fault, those of systems before those of conditions, and
-/// a condition that writes. Last come the limits: more than 256 systems, 64 sets or 512 conditions, a system with
-/// more than 8 queries, one with more than 1,024 ids.
+/// a condition that writes. Last come the limits: more than 256 systems, 64 sets or 512 conditions, or a system with
+/// more than 8 queries or 1,024 ids.
 pub fn build(alloc: Global, desc: ScheduleDesc) -> Result<Built, BuildFault>
     ensures buildable { OnOk result (IsBuildable desc) }
     ensures systems { IfOk result (HasDeclaredSystems desc) }
