@@ -13,8 +13,8 @@ use crate::footprint::Footprint;
 use crate::params::Params;
 use kinds::{Event, Res};
 
-/// Whether two accesses conflict: they name a resource or an event kind that one of them writes, or some set of kinds
-/// matches a query of each and holds a kind that both touch and one writes.
+/// Whether two accesses conflict. They do if they name a resource or an event kind that one of them writes. They also
+/// do if some set of kinds matches a query of each and holds a kind that both touch and one writes.
 pub fn conflicts(a: &Params, b: &Params) -> bool
     ensures { IsTrue result ↔ Conflict a.now b.now }
 {

@@ -9,8 +9,9 @@ use crate::conflict::{meet_at_event, meet_at_resource};
 use crate::footprint::Footprint;
 use crate::params::Params;
 
-/// Whether two accesses meet where these are the sets of kinds that are there, each by its number: they name a resource or an event kind
-/// that one of them writes, or one of the sets matches a query of each and holds a kind that both touch and one writes.
+/// Whether two accesses meet where these archetypes are present, each by its number. They do if they name a resource
+/// or an event kind that one of them writes. They also do if an archetype matches a query of each and holds a kind
+/// that both touch and one writes.
 pub fn meet_in(a: &Params, b: &Params, sets: &[u32]) -> bool
     ensures { IsTrue result ↔ Meet (Some sets.now) a.now b.now }
 {

@@ -15,9 +15,9 @@ use query::Query;
 use std::alloc::{AllocError, Global};
 use std::marker::Model;
 
-/// The parameters of a system: its queries, the resources that it reads (`Res`) and writes (`ResMut`), the events that it reads
-/// and writes, and how many ids it is granted at a start where it has Commands. Contracts see the lists, with resources and
-/// event kinds by number.
+/// The parameters of a system: its queries, the resources that it reads (`Res`) and writes (`ResMut`), and the events
+/// that it reads and writes. Where it has Commands, also how many ids it is granted at a start. Contracts see the
+/// lists, with resources and event kinds by number.
 pub struct Params {
     queries: Vec<Query>,
     footprints: Vec<Footprint>,

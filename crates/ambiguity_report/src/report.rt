@@ -19,7 +19,7 @@ use access_set::datum::why;
 use schedule_builder::Built;
 use std::alloc::{AllocError, Global};
 
-/// A system and what races with it, and the least datum on which they conflict. Of two systems the lower comes first.
+/// A system and what races with it, and the least datum on which they conflict. The lower of two systems comes first.
 #[derive(Clone, Copy, PartialEq, Eq, Debug)]
 pub struct Pair {
     /// What races with the system.
@@ -32,9 +32,9 @@ pub struct Pair {
     pub silenced: bool,
 }
 
-/// The pairs of systems that conflict with neither before the other, and those of a condition and a system that conflict, where the
-/// system is no member of the condition, nor before every member, nor after any: each once, first the pairs of systems and then those
-/// with a condition, in rising order of their numbers. Fails only for a failed allocation.
+/// The pairs of systems that conflict with neither before the other. Then those of a condition and a system that
+/// conflict. The system is no member of the condition, nor before every member, nor after any. Each pair comes once,
+/// in rising order of its numbers. Fails only for a failed allocation.
 pub fn report(alloc: Global, built: &Built) -> Result<Vec<Pair>, AllocError>
     ensures { IfOk result (λ pairs. IsReport built.now pairs.items) }
 {
@@ -54,8 +54,8 @@ pub fn report(alloc: Global, built: &Built) -> Result<Vec<Pair>, AllocError>
     Ok(pairs)
 }
 
-/// Whether a schedule is settled: nothing races with any of its systems and, where a system has commands, no query of a system or
-/// condition has an `added` or `changed` term.
+/// Whether a schedule is settled: nothing races with any of its systems. Where a system has commands, no query of a
+/// system or condition may have an `added` or `changed` term either.
 pub fn is_settled(built: &Built) -> bool
     ensures { IsTrue result ↔ Settled built.now }
 {
@@ -165,7 +165,9 @@ fn datum_between(built: &Built, first: Racer, second: u32, paths: &Paths) -> Opt
     requires paths { ArePaths built.now second paths.now }
     ensures { MatchOption result
         (IsRace built.now first second → ⊥)
-        (λ datum. IsRace built.now first second × IsLeastDatum (access_of_racer built.now first) (params_of built.now second) (Some (datum_of datum))) }
+        (λ datum. IsRace built.now first second
+        × IsLeastDatum (access_of_racer built.now first) (params_of built.now second)
+        (Some (datum_of datum))) }
 {
     if first.is_racing(built, second, paths) {
         let one = first.access(built);

@@ -24,9 +24,9 @@ use Rattle.archetype_store.specs.declared.locations.EntityLocation.{EntityLocati
 use Rattle.archetype_store.specs.Layout.{Archetype, archetype_of, layout_of, archetype_at, column_home, with_column, with_home}
 use Rattle.archetype_store.specs.Tables.{table_at, kinds_at, held_in, held_at, row_or_none, is_unshared, cells_at, number_of, AreUnshared, IsTableOf}
 use Rattle.archetype_store.specs.Storage.{StorageValue, archetypes_of, row_of, row_in, holder_of, holder_in, place_of, is_place, row_cells, cell_for, cell_held, row_with, IsOfKinds, IsStored, IsFilled, AreArchetypes}
-use Rattle.archetype_store.proofs.Held.{shape_at}
-use Rattle.archetype_store.proofs.Laid.{row_seen, holder_seen, not_elsewhere}
-use Rattle.archetype_store.proofs.Standings.{AreSame, same_whole, same_rows, shaped_kinds, unlike_kinds}
+use Rattle.archetype_store.proofs.TablesAfterRowChange.{shape_at}
+use Rattle.archetype_store.proofs.PlacesAfterRowChange.{row_seen, holder_seen, not_elsewhere}
+use Rattle.archetype_store.proofs.ColumnStandings.{AreSame, same_whole, same_rows, shaped_kinds, unlike_kinds}
 use Rattle.archetype_store.proofs.RowMoves.{index_flipped as other_than}
 
 -- ---- the table of an archetype

@@ -22,7 +22,7 @@ use Rattle.archetype_store.specs.Store.{with_slots, slots_with, IsPast}
 use Rattle.archetype_store.proofs.ArchetypeColumns.{row_with_kinds}
 use Rattle.archetype_store.proofs.RowEdits.{below_from_rising, rising_from_below}
 use Rattle.archetype_store.proofs.SlotRows.{row_at_slots}
-use Rattle.archetype_store.proofs.Worlds.{world-slots}
+use Rattle.archetype_store.proofs.WorldShape.{world-slots}
 use Rattle.column_store.specs.Kinds.{AreBelow}
 
 -- ---- cells of slots

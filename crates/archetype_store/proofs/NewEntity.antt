@@ -15,7 +15,7 @@ use Rattle.archetype_store.specs.Changes.{book_changed, changed, slot_left, IsHe
 use Rattle.archetype_store.specs.Storage.{StorageValue, row_of, HaveRows}
 use Rattle.archetype_store.specs.Entities.{HasRows}
 use Rattle.archetype_store.proofs.OneChange.{one_changed}
-use Rattle.archetype_store.proofs.Settled.{slots_changed}
+use Rattle.archetype_store.proofs.BookChanges.{slots_changed}
 use Rattle.archetype_store.proofs.SlotRows.{past_bare}
 
 -- a list of one

@@ -14,7 +14,7 @@ use Rattle.archetype_store.specs.Storage.{StorageValue, row_of, holder_of, holde
 use Rattle.archetype_store.specs.Changes.{components_left}
 use Rattle.archetype_store.specs.RowMoves.{change_of, other_table, arrives_in, stays_there, is_table, one_if, coming_count, HaveRoom, HasLeft, IsPlanned}
 use Rattle.archetype_store.specs.Tables.{table_at, room_at, with_room, shape_of, is_in}
-use Rattle.archetype_store.proofs.Laid.{kinds_kept}
+use Rattle.archetype_store.proofs.PlacesAfterRowChange.{kinds_kept}
 use Rattle.model.proofs.lists.Bools.{apart_number}
 
 pub index_flipped : (i j : ℕ) → (i == j) ≡ false → (j == i) ≡ false

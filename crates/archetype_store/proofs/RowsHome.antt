@@ -12,8 +12,8 @@ use Rattle.column_store.specs.Table.Standing.{Owned, Shared, Away}
 use Rattle.archetype_store.specs.Layout.{Archetype, archetype_at, has_index, layout_of, AreAllHome, IsCellHome, IsRowHome}
 use Rattle.archetype_store.specs.Tables.{table_at, number_of, entity_in_row, IsTableOf}
 use Rattle.archetype_store.proofs.ArchetypeColumns.{numbered, standing_seen}
-use Rattle.archetype_store.proofs.RowsPlaced.{peopled, peopled_within, stands_there}
-use Rattle.archetype_store.proofs.Standings.{homes_seen}
+use Rattle.archetype_store.proofs.RowsOfArchetypes.{peopled, peopled_within, stands_there}
+use Rattle.archetype_store.proofs.ColumnStandings.{homes_seen}
 
 -- ---- where all columns are at home
 

@@ -19,10 +19,10 @@ use Rattle.archetype_store.specs.TableWords.{told_table}
 use Rattle.archetype_store.specs.LivingSets.{set_number}
 use Rattle.archetype_store.specs.Shapes.{kept_seen, noted, AreListed}
 use Rattle.archetype_store.proofs.FittingTables.{listed_kept, listed_more, alike_numbers, set_numbers}
-use Rattle.archetype_store.proofs.Held.{shape_at}
-use Rattle.archetype_store.proofs.KindSets.{above_has, above_each}
-use Rattle.archetype_store.proofs.Standings.{alike_same}
-use Rattle.archetype_store.proofs.Laid.{kinds_kept as shapes_kinds}
+use Rattle.archetype_store.proofs.TablesAfterRowChange.{shape_at}
+use Rattle.archetype_store.proofs.KindOrder.{above_has, above_each}
+use Rattle.archetype_store.proofs.ColumnStandings.{alike_same}
+use Rattle.archetype_store.proofs.PlacesAfterRowChange.{kinds_kept as shapes_kinds}
 use Rattle.archetype_store.proofs.RowMoves.{as_many_tables as shapes_many}
 use Rattle.model.proofs.lists.Bools.{false_is}
 

@@ -6,7 +6,7 @@ ghost use Rattle.archetype_store.specs.Changes.{row_left};
 use column_store::{Components, StampedValue};
 use entity_table::Entity;
 
-/// What an entity is left as.
+/// The state in which an entity is left.
 pub enum Fate {
     /// It lives, with these components, in rising kinds.
     Lives(Components),
@@ -24,11 +24,11 @@ impl Drop for Fate {
     }
 }
 
-/// What becomes of an entity that lives, or whose id is granted.
+/// The change of an entity that lives, or whose id is granted.
 pub struct EntityChange {
     /// The entity.
     pub entity: Entity,
-    /// What it is left as.
+    /// The state in which it is left.
     pub fate: Fate,
 }
 

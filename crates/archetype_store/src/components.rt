@@ -44,7 +44,8 @@ pub fn put_component(
     tick: Tick,
 ) -> Result<(), AllocError>
     ensures { OnOk result (map component_of components.new.items
-        ≡ insert_component tick (value_number value) (value_words value) (map component_of components.old.items)) }
+        ≡ insert_component tick (value_number value) (value_words value)
+        (map component_of components.old.items)) }
 {
     match place_of(components, value.number()) {
         None => components.push(added(value, tick))?,

@@ -345,8 +345,9 @@ impl Entities {
         Ok(granted)
     }
 
-    /// Grants several numbers of ids at once: the least vacant indices, at their generations, first those of the first number. They come
-    /// into a list for each number, in place of what was there. After an error the slots are as they were.
+    /// Grants several numbers of ids at once: the least vacant indices, at their generations, first those of the
+    /// first number. They come into a list for each number, in place of the earlier ones. After an error the slots
+    /// are as they were.
     pub fn grant_level(
         &mut self,
         alloc: Global,

@@ -3,8 +3,8 @@
 ghost use Rattle.archetype_store.specs.Lending.{KindsAreHome};
 ghost use Rattle.archetype_store.specs.Overlays.{ColumnsAreOverlays, TakenAreOverlays, TakenClose};
 
-/// A column whose cells are those of the state after writes at a tick lays these writes over the state when it comes home, also after
-/// others.
+/// Take a column whose cells are those of the state after writes at a tick. It lays these writes over the state when
+/// it comes home, also after others.
 pub fn columns_are_overlays()
     ensures { ColumnsAreOverlays }
 {}

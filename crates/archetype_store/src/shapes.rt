@@ -11,7 +11,8 @@ use std::alloc::{AllocError, Global};
 /// How many words there are.
 const WORDS: usize = 4_294_967_296;
 
-/// What is asked of the kinds of an archetype: those that it must have and those that it must not, each as the bits of a word.
+/// The demand on the kinds of an archetype: those that it must have and those that it must not. Each is kept as the
+/// bits of a word.
 #[derive(Clone, Copy, PartialEq, Eq, Debug)]
 pub struct Shape {
     /// The kinds that are required.

@@ -52,8 +52,8 @@ use std::marker::Model;
 use std::mem;
 use std::sync::Arc;
 
-/// The world. Contracts see its state (slots by index, resources by number, the clock) and beside it how components are laid out: the
-/// archetypes that have entities.
+/// The world. Contracts see its state (slots by index, resources by number, the clock) and its layout: the archetypes
+/// that have entities.
 pub struct World {
     slots: Entities,
     resources: Resources,
@@ -116,8 +116,9 @@ impl World {
         }
     }
 
-    /// The same world once more, where all columns are at home. The columns of the copy are its alone, whoever reads those of this world: a
-    /// later call on one of the two leaves the other as it is. Where an allocation fails there is no copy.
+    /// The same world once more, where all columns are at home. The columns of the copy are its alone, whoever reads
+    /// those of this world. A later call on one of the two leaves the other as it is. Where an allocation fails there
+    /// is no copy.
     pub fn copy(&self, alloc: Global) -> Result<World, AllocError>
         requires { AreAllHome self.now.layout }
         ensures { IfOk result (λ copy. copy ≡ self.now) }
@@ -131,7 +132,7 @@ impl World {
         })
     }
 
-    /// The tick at which the clock stands.
+    /// The tick of the clock.
     pub fn now(&self) -> Tick
         ensures value { result ≡ self.now.state.clock }
         ensures world { IsWorld widths self.now.state }
@@ -228,8 +229,9 @@ impl World {
         self.slots.column(archetype, kind)
     }
 
-    /// Takes the column of a kind of the archetype of a number out of the world until it comes home. Meanwhile the world is as if it was
-    /// there. A column that is still read elsewhere is copied for it. After an error nothing has changed.
+    /// Takes the column of a kind of the archetype of a number out of the world until it comes home. Meanwhile the
+    /// world is as if it was at home. A column that is still read elsewhere is copied for it. After an error nothing
+    /// has changed.
     pub fn take_column(
         &mut self,
         alloc: Global,
@@ -285,7 +287,8 @@ impl World {
         self.slots.share_entities(alloc, archetype)
     }
 
-    /// Puts a column that was taken back: each entity of its archetype has the component beside it. It allocates nothing.
+    /// Puts a column that was taken back: each entity of its archetype has the component in the same row. It
+    /// allocates nothing.
     pub fn put_column(&mut self, archetype: usize, column: StampedColumn)
         requires away { column_home (archetype_at self.old.layout archetype) column.kind
             ≡ Some false }
@@ -299,8 +302,9 @@ impl World {
         self.slots.put_column(archetype, column);
     }
 
-    /// Takes columns out of the world, to be written, until they come home. Meanwhile the world is as if they were there. No row is
-    /// touched, but a column that is still read elsewhere is copied. After an error nothing has changed.
+    /// Takes columns out of the world, to be written, until they come home. Meanwhile the world is as if they were at
+    /// home. No row is touched, but a column that is still read elsewhere is copied. After an error nothing has
+    /// changed.
     pub fn take_written(
         &mut self,
         alloc: Global,
@@ -358,7 +362,8 @@ impl World {
         Ok(shared)
     }
 
-    /// Puts columns that were taken back: each entity of their archetypes has the components beside it. It allocates nothing.
+    /// Puts columns that were taken back: each entity of their archetypes has the components in the same row. It
+    /// allocates nothing.
     pub fn put_back(&mut self, columns: Vec<TakenColumn>)
         requires { CanComeHome columns.items self.old }
         ensures { self.new ≡ all_home columns.items self.old }
@@ -369,8 +374,8 @@ impl World {
         }
     }
 
-    /// The layout is that of the state: who is in an archetype lives with just its kinds, who lives with components is in one, none is
-    /// without entities, and no two have the same kinds.
+    /// The layout is that of the state. An entity in an archetype lives with just its kinds, and one that lives with
+    /// components is in an archetype. None is without entities, and no two have the same kinds.
     pub fn prove_laid(&self)
         ensures { IsLayoutOf self.now.state.slots self.now.layout }
     {
@@ -400,10 +405,11 @@ impl World {
         self.slots.grant(alloc, count)
     }
 
-    /// Grants several numbers of ids at once, as a grant of each after the others would: the least vacant indices, at their
-    /// generations, first those of the first number. They come into a list for each number, in place of what was there: lists that are
-    /// long enough take no memory. It is refused where fewer indices are left than are asked for in all, and where an allocation fails.
-    /// After an error nothing of the world has changed.
+    /// Grants several numbers of ids at once, as a grant of each after the others would. They are the least vacant
+    /// indices, at their generations, first those of the first number. They come into a list for each number, in
+    /// place of the earlier ones: lists that are long enough take no memory. It is refused where fewer indices are
+    /// left than are asked for in all, and where an allocation fails. After an error nothing of the world has
+    /// changed.
     pub fn grant_level(
         &mut self,
         alloc: Global,
@@ -501,8 +507,8 @@ impl World {
         self.slots.row_place(index)
     }
 
-    /// Inserts a component of an entity at a tick. A component of the kind that is there is replaced and keeps its added stamp. After
-    /// an error nothing has changed.
+    /// Inserts a component of an entity at a tick. A component of the kind that it has already is replaced and keeps
+    /// its added stamp. After an error nothing has changed.
     pub fn insert<C: Component>(
         &mut self,
         e: Entity,
@@ -582,8 +588,8 @@ impl World {
         self.change(&[EntityChange { entity, fate }])
     }
 
-    /// Makes these changes, no two of one index: an entity that is left alive has just the components of its change, and no other entity changes. Where
-    /// an allocation fails nothing has changed.
+    /// Makes these changes, no two of one index. An entity that is left alive has just the components of its change,
+    /// and no other entity changes. Where an allocation fails nothing has changed.
     pub fn change(&mut self, changes: &[EntityChange]) -> Result<(), AllocError>
         requires home { AreAllHome self.old.layout }
         requires apart { AreOfOtherIndices changes.now }
@@ -606,7 +612,7 @@ impl World {
         list
     }
 
-    /// Keeps a list of changes that are made, so that the next ones stand in its room. That of very many is dropped.
+    /// Keeps a list of changes that are made as scratch for the next ones. That of very many is dropped.
     pub fn keep_change_list(&mut self, mut list: Vec<EntityChange>)
         ensures { self.new ≡ self.old }
     {

@@ -23,7 +23,7 @@ use Rattle.archetype_store.specs.Store.{StoreValue, with_slots, slots_with}
 use Rattle.archetype_store.specs.Lending.{all_home, IsAway, CanComeHome}
 use Rattle.archetype_store.specs.Overlays.{IsAfter, is_reached, AreReached}
 use Rattle.archetype_store.proofs.ColumnOverlays.{entities_all_home, same_again, taken_close}
-use Rattle.archetype_store.proofs.TakenColumns.{laid_home, cells_past}
+use Rattle.archetype_store.proofs.ColumnLoans.{laid_home, cells_past}
 use Rattle.body.specs.Columns.{Column, cells_after, column_after}
 use Rattle.body.specs.Sheet.{Sheet, WritesReach}
 use Rattle.body.specs.Together.{words_of_sheet, words_of_all, IsAlone}

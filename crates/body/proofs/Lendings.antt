@@ -16,7 +16,7 @@ use Rattle.archetype_store.specs.Slot.{cell_of, column_cells}
 use Rattle.archetype_store.specs.Store.{StoreValue, homed_in, IsPast}
 use Rattle.archetype_store.specs.Lending.{all_home, IsAway, CanComeHome}
 use Rattle.archetype_store.proofs.ColumnOverlays.{entities_home, entities_all_home}
-use Rattle.archetype_store.proofs.TakenColumns.{home_again, away_now, cells_past}
+use Rattle.archetype_store.proofs.ColumnLoans.{home_again, away_now, cells_past}
 use Rattle.body.specs.Columns.{Column, cells_after, column_after}
 use Rattle.body.specs.Sheet.{Sheet}
 use Rattle.body.specs.Together.{words_of_sheet}

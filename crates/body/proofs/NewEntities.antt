@@ -24,7 +24,7 @@ use Rattle.model.proofs.lists.Lists.{==-same}
 use Rattle.model.proofs.shape.Rows.{each-insert, rising-insert, component-new, component-changed}
 use Rattle.model.proofs.sessions.Spawns.{grant-here, next-generation}
 use Rattle.entity_table.proofs.Edits.{get_or-update_at, update_at-same}
-use Rattle.entity_table.proofs.Keeping.{granted-within, spawned-granted}
+use Rattle.entity_table.proofs.BookShape.{granted-within, spawned-granted}
 use Rattle.archetype_store.specs.Changes.{with_new}
 use Rattle.archetype_store.specs.Store.{at_clock, with_slots}
 use Rattle.body.specs.Inputs.{given_by}

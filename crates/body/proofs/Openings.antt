@@ -22,7 +22,7 @@ use Rattle.column_store.specs.Order.{AreApart}
 use Rattle.archetype_store.specs.Layout.{Archetype, archetype_at, IsLayoutOf}
 use Rattle.archetype_store.specs.Store.{StoreValue, IsPast}
 use Rattle.archetype_store.proofs.RowEdits.{kinds-among}
-use Rattle.archetype_store.proofs.TakenColumns.{cells_past}
+use Rattle.archetype_store.proofs.ColumnLoans.{cells_past}
 use Rattle.query_plan.specs.declared.row.Row.{Row}
 use Rattle.query_plan.specs.Standing.{IsStanding}
 use Rattle.query_plan.proofs.Stamps.{cell_here, cells_length}

@@ -27,7 +27,7 @@ use Rattle.archetype_store.specs.Slot.{cell_of, column_cells}
 use Rattle.archetype_store.specs.Store.{StoreValue}
 use Rattle.archetype_store.proofs.ColumnOverlays.{entities_home}
 use Rattle.archetype_store.proofs.RowEdits.{kinds-among}
-use Rattle.archetype_store.proofs.TakenColumns.{kinds_home}
+use Rattle.archetype_store.proofs.ColumnLoans.{kinds_home}
 use Rattle.query_plan.specs.Picks.{Picked, picks_of}
 use Rattle.query_plan.specs.Standing.{ArePickedHome}
 use Rattle.query_plan.proofs.PickedHome.{from_picked}

@@ -19,7 +19,7 @@ use Rattle.archetype_store.specs.declared.columns.TakenColumn.{TakenColumn}
 use Rattle.archetype_store.specs.Layout.{Archetype, archetype_at, column_home, with_home, IsLayoutOf}
 use Rattle.archetype_store.specs.Slot.{column_cells}
 use Rattle.archetype_store.specs.Store.{StoreValue}
-use Rattle.archetype_store.proofs.TakenColumns.{kinds_home}
+use Rattle.archetype_store.proofs.ColumnLoans.{kinds_home}
 use Rattle.query_plan.specs.declared.row.Row.{Row}
 use Rattle.query_plan.specs.Picks.{Picked, picked_from, picks_of}
 use Rattle.query_plan.specs.Standing.{IsStanding, ArePickedHome}

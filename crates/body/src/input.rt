@@ -19,13 +19,13 @@ pub enum Input {
     SetResource(Res, i64),
     /// An event of a kind is sent, with its value. The next run shows it to each reader.
     Emit(Event, i64),
-    /// A new entity lives, with these components. Where a kind stands twice the later one counts.
+    /// A new entity lives, with these components. Where a kind comes twice the later one counts.
     Spawn(Vec<Value>),
-    /// An entity gets a component, in place of the one of its kind. It is passed over where the entity doesn't live.
+    /// An entity gets a component, in place of the one of its kind. It is skipped where the entity doesn't live.
     Insert(Entity, Value),
-    /// An entity loses its component of a kind. It is passed over where the entity doesn't live.
+    /// An entity loses its component of a kind. It is skipped where the entity doesn't live.
     Remove(Entity, Kind),
-    /// An entity lives no more. It is passed over where the entity doesn't live.
+    /// An entity lives no more. It is skipped where the entity doesn't live.
     Despawn(Entity),
 }
 

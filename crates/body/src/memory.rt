@@ -12,7 +12,8 @@ use kinds::Event;
 use std::alloc::{AllocError, Global};
 use std::marker::Model;
 
-/// What a system or a condition remembers: the tick of its last run, the cursor of each of its event readers in order, and eight registers.
+/// The memory of a system or a condition. It has the tick of its last run, the cursor of each of its event readers in
+/// order, and eight registers.
 #[derive(Drop)]
 pub struct Memory {
     last_run: Tick,

@@ -50,9 +50,9 @@ use std::marker::Model;
 // The greatest count of commands passed over.
 const MOST_PASSED_OVER: u64 = 1 << 62;
 
-/// A state in a run. While views are open over it, the columns that they write are away. Contracts see the state that the definitions
-/// speak of, in which a column that is away has the components with which it left, and beside it how components are laid out. No last run is
-/// above the clock, and each memory has its registers.
+/// A state in a run. While views are open over it, the columns that they write are away. Contracts see the state of
+/// the definitions, and the layout of components. In that state a column that is away has the components with which
+/// it left. No last run is above the clock, and each memory has its registers.
 pub struct OpenState {
     pub(crate) world: World,
     pub(crate) events: Events,
@@ -101,7 +101,8 @@ impl OpenState {
         State { open: self }
     }
 
-    /// What holds of every state: there aren't too many indices, the layout is that of the world, and no last run is above the clock.
+    /// Every state keeps this: there aren't too many indices, the layout is that of the world, and no last run is
+    /// above the clock.
     pub fn prove_law(&self)
         ensures few { length self.now.state.world.slots ≤ most_indices }
         ensures laid { IsLayoutOf self.now.state.world.slots self.now.layout }
@@ -129,8 +130,8 @@ impl OpenState {
         self.events.prove_shape();
     }
 
-    /// The opening of a run: moves the clock to the next tick, and drops the older buffer of the events of each kind, whose newer one becomes
-    /// the older. At the last tick the clock is spent and nothing changes.
+    /// The opening of a run. It moves the clock to the next tick, and drops the older buffer of the events of each
+    /// kind, whose newer one becomes the older. At the last tick the clock is spent and nothing changes.
     #[tactic(auto, using(crate::proofs::Times::all_later))]
     pub fn begin(&mut self) -> Result<(), ClockSpent>
         ensures ok { OnOk result (self.new
@@ -190,9 +191,10 @@ impl OpenState {
         self.world.grant(alloc, count)
     }
 
-    /// Grants several numbers of ids at once: the least vacant indices, at their generations, first those of the first number. They come into a
-    /// list for each number, in place of what was there: lists that are long enough take no memory. It is refused where fewer indices are left
-    /// than are asked for in all, and where an allocation fails. After an error nothing of the state has changed.
+    /// Grants several numbers of ids at once: the least vacant indices, at their generations, first those of the
+    /// first number. They come into a list for each number, in place of the earlier ones: lists that are long enough
+    /// take no memory. It is refused where fewer indices are left than are asked for in all, and where an allocation
+    /// fails. After an error nothing of the state has changed.
     pub fn grant_level(
         &mut self,
         alloc: Global,
@@ -214,8 +216,8 @@ impl OpenState {
         self.world.grant_level(alloc, counts, granted)
     }
 
-    /// Does the commands of the buffers of these numbers at a tick that isn't above the clock: one buffer after the other, each in its order of
-    /// issue. Where an allocation fails nothing has changed.
+    /// Does the commands of the buffers of these numbers at a tick that isn't above the clock. One buffer comes after
+    /// the other, each in its order of issue. Where an allocation fails nothing has changed.
     pub fn apply(
         &mut self,
         alloc: Global,
@@ -254,9 +256,10 @@ impl OpenState {
         self.world.release(granted);
     }
 
-    /// What a system with these parameters is shown of the state, with these ids granted, and nothing written yet: what it writes will count as
-    /// changed at a tick to come. The columns that it may write leave the state, by move, and those that it reads are shared. It stands in the room
-    /// of a view that was closed, where there is one. After an error the state is as it was.
+    /// The view of a system with these parameters on the state, with these ids granted, and nothing written yet. Its
+    /// writes will count as changed at a tick to come. The columns that it may write leave the state, by move, and
+    /// those that it reads are shared. It reuses a view that was closed, if there is one. After an error the state is
+    /// as it was.
     pub fn open(
         &mut self,
         alloc: Global,
@@ -311,8 +314,8 @@ impl OpenState {
         Ok(view)
     }
 
-    /// Notes the run of a system with these parameters at a tick, which isn't above the clock: its last run is then, and its readers have been
-    /// shown all that is kept.
+    /// Notes the run of a system with these parameters at a tick, which isn't above the clock. Its last run is then,
+    /// and its readers have been shown all that is kept.
     pub fn note(&mut self, system: usize, params: &Params, tick: Tick)
         requires known { system < length self.old.state.systems }
         requires readers { length (memory_of_system self.old.state system).cursors
@@ -333,7 +336,8 @@ impl OpenState {
         );
     }
 
-    /// What a condition answers of the state, for when it was last asked and what its readers have read. Fails only for a failed allocation.
+    /// The answer of a condition on the state, by the tick at which it was last asked and the events that its readers
+    /// have read. Fails only for a failed allocation.
     pub fn ask(&mut self, alloc: Global, condition: usize, cond: &Cond) -> Result<bool, AllocError>
         requires known { condition < length self.old.state.conditions }
         requires home { AllByRecursion (λ query. ArePickedHome query self.old.layout) (queries_of
@@ -355,8 +359,8 @@ impl OpenState {
         )
     }
 
-    /// Notes that a condition that asks about what these parameters name was asked at a tick, which isn't above the clock: that is its last
-    /// run, and its readers have read all that is kept.
+    /// Notes that a condition with these parameters was asked at a tick, which isn't above the clock. That is its
+    /// last run, and its readers have read all that is kept.
     pub fn note_condition(&mut self, condition: usize, access: &Params, tick: Tick)
         requires known { condition < length self.old.state.conditions }
         requires readers { length (memory_of_condition self.old.state condition).cursors
@@ -377,9 +381,10 @@ impl OpenState {
         );
     }
 
-    /// Brings the columns of a view of a system home, and so lays what was written over the state, at the tick of the view, which isn't above
-    /// the clock: components, resources, events, and the registers of the system. What other views hold stays away, and the view is kept for a
-    /// start to come. Where an event gets no number, or an allocation fails, the state is of no more use. The commands.
+    /// Brings the columns of a view of a system home. So it lays the writes over the state, at the tick of the view,
+    /// which isn't above the clock. They are components, resources, events, and the registers of the system. Columns
+    /// of other views stay away, and the view is kept for a start to come. Where an event gets no number, or an
+    /// allocation fails, the state is of no more use. The commands.
     pub fn close(&mut self, view: Box<View>, system: usize) -> Result<CommandBuffer, SendFault>
         requires known { system < length self.old.state.systems }
         requires lent { AreLent (store_of self.old) view.value.opening.taken }

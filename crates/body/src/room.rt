@@ -10,8 +10,8 @@ use archetype_store::store::{SharedColumn, TakenColumn};
 use query_plan::{RowBuffers, Spares};
 use std::alloc::Global;
 
-/// The lists of queries that are closed, which are used again: so a query that opens takes no memory for them once one like it was closed.
-/// What is taken has no elements.
+/// The lists of queries that are closed, as scratch. A query that opens takes no memory for them once one like it was
+/// closed. A list that is taken has no elements.
 #[derive(Drop)]
 pub struct QueryRoom {
     /// The buffers of rows.

@@ -71,7 +71,7 @@ impl State {
         }
     }
 
-    /// The state of a world with these events and memories, with nothing passed over.
+    /// The state of a world with these events and memories, with nothing skipped.
     pub fn new(world: World, events: Events, memories: Memories) -> Self
         requires last_runs { AreInTime world.state.clock memories.systems.items
             memories.conditions.items }
@@ -82,7 +82,7 @@ impl State {
         State::counted(world, events, memories, 0)
     }
 
-    /// The same, with so many commands passed over.
+    /// The same, with this count of skipped commands.
     pub fn counted(world: World, events: Events, memories: Memories, passed_over: u64) -> Self
         requires last_runs { AreInTime world.state.clock memories.systems.items
             memories.conditions.items }
@@ -108,8 +108,9 @@ impl State {
         }
     }
 
-    /// The same state once more: the world, the kept events, the memories and the count of commands passed over. The copy shares nothing with
-    /// this one, so that a later write to one of the two leaves the other as it is. Where an allocation fails there is no copy.
+    /// The same state once more: the world, the kept events, the memories and the count of skipped commands. The copy
+    /// shares nothing with this one, so that a later write to one of the two leaves the other as it is. Where an
+    /// allocation fails there is no copy.
     pub fn copy(&self, alloc: Global) -> Result<Self, AllocError>
         ensures { IfOk result (λ copy. copy ≡ self.now) }
     {
@@ -139,9 +140,9 @@ impl State {
         open
     }
 
-    /// Takes an input at the next tick, which becomes the clock, and gives the id of a new entity. `NoTick` at the last tick, else
-    /// `NoEventNumber` where an event gets no number, `NoIds` where no index is left; `Memory` where an allocation fails. After an error nothing
-    /// has changed.
+    /// Takes an input at the next tick, which becomes the clock, and gives the id of a new entity. `NoTick` at the
+    /// last tick. Otherwise `NoEventNumber` where an event gets no number, and `NoIds` where no index is left.
+    /// `Memory` where an allocation fails. After an error nothing has changed.
     pub fn input(&mut self, alloc: Global, input: &Input) -> Result<Option<Entity>, PutFault>
         ensures can { OnOk result (can_input (input_of input.now) self.old ≡ true) }
         ensures id { IfOk result (λ id. id ≡ input_id (input_of input.now) self.old) }
@@ -196,7 +197,7 @@ impl State {
         self.open.conditions.len()
     }
 
-    /// How many commands were passed over, at most 2^62.
+    /// How many commands were skipped, at most 2^62.
     pub fn passed_over(&self) -> u64
         ensures { result ≡ self.now.passed_over }
     {

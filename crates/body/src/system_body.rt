@@ -34,8 +34,9 @@ pub trait Body: Send + Drop {
         ensures exact { result ≡ fits self.now params.now }
         ensures keeps { IsTrue result → KeepsWithin params.now (meaning self.now params.now) };
 
-    /// Runs the body on a view that shows what a system with its parameters can be shown, and in which nothing is written yet. What it leaves there is the outcome that it means by what it is shown, or it
-    /// answers the refusal that it means. It may report a failed allocation at any time. Its meaning, and what it fits, stay.
+    /// Runs the body on a view that shows what a system with its parameters can be shown, and in which nothing is
+    /// written yet. It leaves there the outcome that it means by what it is shown, or answers the refusal that it
+    /// means. It may report a failed allocation at any time. Its meaning, and what it fits, stay.
     fn run(&mut self, view: &mut View) -> Result<(), BodyFault>
         requires fits { IsTrue (fits self.old view.old.params) }
         requires showing { CanBeShown view.old.params view.old.shown }

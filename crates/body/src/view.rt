@@ -44,8 +44,8 @@ use kinds::{Component, Event, Fields, Kind, Res, Value};
 use std::alloc::{AllocError, Global};
 use std::marker::Model;
 
-/// What a system is shown at its start, and what it writes. Contracts see the parameters, what is shown, the outcome so far, and what it
-/// was opened over.
+/// A system reads the world through a view, as shown at its start, and writes into it. Contracts see the parameters,
+/// what is shown, the outcome so far, and what it was opened over.
 pub struct View {
     tick: Tick,
     queries: Vec<ViewQuery>,
@@ -100,10 +100,11 @@ impl View {
         }
     }
 
-    /// What a system with these parameters and this memory is shown of a world and its events, with these ids granted, and nothing written: what
-    /// it writes will count as changed at a tick to come. Its commands go into a buffer that has none. The columns that it may write leave the
-    /// world, by move, and those that it reads are shared. What the view was before is forgotten, and its room is used again. After an error the
-    /// world is as it was, and the view is of no more use.
+    /// The view of a system with these parameters and this memory on a world and its events, with these ids granted,
+    /// and nothing written. Its writes will count as changed at a tick to come. Its commands go into a buffer that
+    /// has none. The columns that it may write leave the world, by move, and those that it reads are shared. The
+    /// earlier use of the view is forgotten, and its lists are scratch. After an error the world is as it was, and
+    /// the view is of no more use.
     pub fn open(
         &mut self,
         alloc: Global,
@@ -159,7 +160,7 @@ impl View {
         Ok(())
     }
 
-    /// What holds of every view: it shows rows for each query, and has commands only where its system has Commands.
+    /// Every view keeps this: it shows rows for each query, and has commands only where its system has Commands.
     pub fn prove_law(&self)
         ensures rows { length self.now.shown.rows ≡ length self.now.params.queries }
         ensures commands { is_some self.now.params.spawns ≡ false → self.now.outcome.commands ≡ [] }
@@ -223,8 +224,8 @@ impl View {
         query.entity(row)
     }
 
-    /// The component of a row of a query: what was written there, else what is shown. None exactly where the entity has none of the kind, or
-    /// no term of the query fetches it.
+    /// The component of a row of a query: the one written there, or the one shown if none was written. None exactly
+    /// where the entity has none of the kind, or no term of the query fetches it.
     pub fn get<C: Component>(&self, query: usize, row: usize) -> Option<C>
         requires query { query < length self.now.shown.rows }
         requires row { row < length (rows_at self.now.shown query) }
@@ -244,7 +245,7 @@ impl View {
         self.write(query, row, component.into_value());
     }
 
-    /// The value of a resource that is read or written: what was written, else what is shown.
+    /// The value of a resource that is read or written: the one written, or the one shown if none was written.
     pub fn res(&self, resource: Res) -> i64
         requires { IsTrue (names_resource self.now.params (res_number resource)) }
         ensures { result ≡ resource_read self.now (res_number resource) }
@@ -327,7 +328,7 @@ impl View {
         self.issued.despawn(e)
     }
 
-    /// A register: what was put there last, else what is shown.
+    /// A register: the value put there last, or the one shown if none was put.
     pub fn reg(&self, register: usize) -> i64
         requires { register < register_count }
         ensures { result ≡ get_or self.now.outcome.registers register (pos 0) }
@@ -343,8 +344,8 @@ impl View {
         self.values.set_reg(register, value);
     }
 
-    /// The fields of the component of a kind in a row of a query: what was written there, else what is shown. None where there is no
-    /// component.
+    /// The fields of the component of a kind in a row of a query: those written there, or those shown if none were
+    /// written. None where there is no component.
     pub fn words(&self, query: usize, row: usize, kind: Kind) -> Option<Fields>
         requires query { query < length self.now.shown.rows }
         requires row { row < length (rows_at self.now.shown query) }
@@ -390,8 +391,9 @@ impl View {
 }
 
 impl View {
-    /// The values of a field of a kind in the rows of a query from one on, as many as there is room for: what was written there, else what is
-    /// shown. 0 where a row has not the kind, where no term of the query fetches it, and where the kind has no such field.
+    /// The values of a field of a kind in the rows of a query from one on, as many as there is room for. Each is the
+    /// one written there, or the one shown if none was written. 0 where a row has not the kind, where no term of the
+    /// query fetches it, and where the kind has no such field.
     pub fn read_field(
         &self,
         query: usize,
@@ -433,8 +435,9 @@ impl View {
 }
 
 impl View {
-    /// The order in which the rows of a query stand, where many more of them stand in turn by it than in rising index, as far as was looked: a field
-    /// of many is best read and written so. None where nothing is gained by it. Its list is that of an order that was given back, if any.
+    /// The stored order of the rows of a query. By it many more of them are contiguous, as far as was looked, than in
+    /// rising index. A field of many is best read and written so. None where nothing is gained by it. Its list is
+    /// that of an order that was given back, if any.
     pub fn order(&mut self, query: usize) -> Result<Option<RowOrder>, AllocError>
         requires { query < length self.old.shown.rows }
         ensures order { IfOk result (λ found. IfSome found (λ order. IsOrder
@@ -464,8 +467,8 @@ impl View {
         self.order = order;
     }
 
-    /// How many of the rows of a query with these numbers stand in turn, from the first on: each at the place behind that of the one before, in
-    /// one archetype.
+    /// How many of the rows of a query with these numbers are contiguous, from the first on. Each is at the place
+    /// behind that of the one before, in one archetype.
     pub fn rows_in_turn(&self, query: usize, rows: &[u32]) -> usize
         requires query { query < length self.now.shown.rows }
         requires some { 0 < length rows.now }
@@ -479,8 +482,9 @@ impl View {
         query.rows_in_turn(rows)
     }
 
-    /// The values of a field of a kind in the rows of a query with these numbers, which stand in turn: what was written there, else what is
-    /// shown. 0 where a row has not the kind, where no term of the query fetches it, and where the kind has no such field.
+    /// The values of a field of a kind in the rows of a query with these numbers, which are contiguous. Each is the
+    /// one written there, or the one shown if none was written. 0 where a row has not the kind, where no term of the
+    /// query fetches it, and where the kind has no such field.
     pub fn read_rows(
         &self,
         query: usize,
@@ -503,8 +507,8 @@ impl View {
         query.read_rows(kind, place, rows, values);
     }
 
-    /// Writes values into a field of a kind in the rows of a query with these numbers, which stand in turn, a value a row. The query has a `mut`
-    /// term of the kind, and the other field of each component stays.
+    /// Writes values into a field of a kind in the rows of a query with these numbers, which are contiguous, a value
+    /// a row. The query has a `mut` term of the kind, and the other field of each component stays.
     pub fn write_rows(
         &mut self,
         query: usize,

@@ -48,8 +48,8 @@ struct RowSource {
     turn: usize,
 }
 
-/// A query of a view. Contracts see its terms, its rows as they were shown, what was written in them, the columns as they were taken, and
-/// the tick of its writes.
+/// A query of a view. Contracts see its terms, its rows as they were shown, and what was written in them. They also
+/// see the columns as they were taken, and the tick of its writes.
 pub struct ViewQuery {
     source: RowSource,
     columns: Vec<ViewColumn>,
@@ -85,8 +85,8 @@ impl Model for ViewQuery {
 }
 
 impl ViewQuery {
-    /// The query over these rows, with nothing written: the rows stand in the columns, of which `slots` names one for
-    /// each kind that is fetched, by archetype. What is written counts as changed at the tick.
+    /// The query over these rows, with nothing written. The rows are in the columns, of which `slots` names one for
+    /// each kind that is fetched, by archetype. A write counts as changed at the tick.
     pub fn open(
         tick: Tick,
         query: &Query,
@@ -134,8 +134,8 @@ impl ViewQuery {
         self.source.rows.at(row).entity
     }
 
-    /// The component of a row: what was written there, else what is shown. None where the row has not the kind, and where the query doesn't
-    /// fetch it.
+    /// The component of a row: the one written there, or the one shown if none was written. None where the row has
+    /// not the kind, and where the query doesn't fetch it.
     pub fn get<C: Component>(&self, row: usize) -> Option<C>
         requires { row < length self.now.rows }
         ensures { option_map C.words result
@@ -221,8 +221,8 @@ impl ViewQuery {
         );
     }
 
-    /// The values of a field of a kind of the rows from one on, as many as there is room for: 0 where a row has not the kind, and where the
-    /// query doesn't fetch it.
+    /// The values of a field of a kind of the rows from one on, as many as there is room for. A value is 0 where a
+    /// row lacks the kind, and where the query doesn't fetch it.
     pub fn read_field(&self, kind: Kind, from: usize, place: usize, values: &mut [i64])
         requires { from + length values.old ≤ length self.now.rows }
         ensures length { length values.new ≡ length values.old }
@@ -262,8 +262,8 @@ impl ViewQuery {
         count
     }
 
-    /// Writes values into a field of a kind of the rows from one on, a value a row, of a query that has a `mut` term of the kind. The other
-    /// field of each component stays.
+    /// Writes values into a field of a kind of the rows from one on, a value a row. The query has a `mut` term of the
+    /// kind. The other field of each component stays.
     pub fn write_field(&mut self, kind: Kind, from: usize, place: usize, values: &[i64])
         requires rows { from + length values.now ≤ length self.old.rows }
         requires mut_term { IsTrue (writes self.old.terms (kind_number kind)) }
@@ -453,8 +453,14 @@ fn write_word_in(
     requires writable { IsWritable (map slots_seen slots.now) (map held_seen columns.old.items) at
         (kind_number kind) }
     requires place { place < widths (kind_number kind) }
-    ensures { map held_seen columns.new.items ≡ at_slot (slot_in (map slots_seen slots.now) at.archetype (kind_number kind))
-        (with_cell at.place (changed_cell (words_with (widths (kind_number kind)) place value (unwrap_or (words_of (seen_at (map slots_seen slots.now) (map held_seen columns.old.items) at (kind_number kind))) [])) tick)) (map held_seen columns.old.items) }
+    ensures { map held_seen columns.new.items
+        ≡ at_slot (slot_in (map slots_seen slots.now) at.archetype (kind_number kind))
+        (with_cell at.place
+        (changed_cell
+        (words_with (widths (kind_number kind)) place value
+        (unwrap_or
+        (words_of (seen_at (map slots_seen slots.now) (map held_seen columns.old.items) at
+        (kind_number kind))) [])) tick)) (map held_seen columns.old.items) }
 {
     match slot_of(slots, at.archetype as usize, kind) {
         Some(slot) => {

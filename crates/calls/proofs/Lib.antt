@@ -1,1 +1,1 @@
-mod Keeping
+mod BodiesWithin

@@ -12,12 +12,12 @@ pub type Tick = u64;
 /// The last tick that a clock reaches.
 pub const LAST_TICK: Tick = 4_611_686_018_427_387_904;
 
-/// The clock stands at the last tick, and gives no further one.
+/// The clock is at the last tick, and gives no further one.
 #[derive(Clone, Copy, PartialEq, Eq, Debug, Error)]
 #[error("the clock is spent")]
 pub struct ClockSpent;
 
-/// A clock, which contracts see as the tick at which it stands: from 1 to the last tick.
+/// A clock, which contracts see as its tick: from 1 to the last tick.
 #[derive(Clone, Copy, PartialEq, Eq, Debug)]
 pub struct Clock {
     tick: Tick,
@@ -37,7 +37,7 @@ impl Model for Clock {
 }
 
 impl Clock {
-    /// The clock that stands at this tick.
+    /// The clock at this tick.
     pub fn at(now: Tick) -> Self
         requires least { 1 ≤ now }
         requires most { now ≤ last_tick }
@@ -46,7 +46,7 @@ impl Clock {
         Clock { tick: now }
     }
 
-    /// The tick at which the clock stands.
+    /// The tick of the clock.
     pub fn now(&self) -> Tick
         ensures value { result ≡ self.now }
         ensures least { 1 ≤ result }
@@ -70,7 +70,7 @@ impl Clock {
         Ok(now + 1)
     }
 
-    /// Takes the last tick back: the clock stands at the one before. It is past tick 1.
+    /// Takes the last tick back: the clock is at the one before. It is past tick 1.
     pub fn back(&mut self)
         requires { 1 < self.old }
         ensures { self.new ≡ self.old - 1 }

@@ -13,7 +13,7 @@ pub struct Stamp {
     pub changed: Tick,
 }
 
-/// Whether a stamp is later than a last run: an observer that never ran has the last run 0, so that all is new to it.
+/// Whether a stamp is later than a last run. An observer that never ran has the last run 0, so all is new to it.
 pub fn newer(stamp: Tick, last_run: Tick) -> bool
     ensures { result ≡ nat_lt last_run stamp }
 {

@@ -74,7 +74,8 @@ pub(crate) fn write_in(
         (table_of (map kind_number kinds.now) entities.now columns.old) (value_number
         value))) }
     ensures written { table_of (map kind_number kinds.now) entities.now columns.new
-        ≡ write_cell (table_of (map kind_number kinds.now) entities.now columns.old) row (value_number value) (value_words value) tick }
+        ≡ write_cell (table_of (map kind_number kinds.now) entities.now columns.old) row
+        (value_number value) (value_words value) tick }
     ensures table { IsTable (map kind_number kinds.now) entities.now columns.new }
     ensures rooms { map room_of columns.new ≡ map room_of columns.old }
 {
@@ -97,7 +98,8 @@ pub(crate) fn lend_in(
         (table_of (map kind_number kinds.now) entities.now columns.old) (kind_number kind)) }
     ensures kind { IfOk result (λ column. column.kind ≡ kind_number kind) }
     ensures cells { IfOk result (λ column. map (λ cell. Some cell) column.cells
-        ≡ kind_cells (table_of (map kind_number kinds.now) entities.now columns.old) (kind_number kind)) }
+        ≡ kind_cells (table_of (map kind_number kinds.now) entities.now columns.old)
+        (kind_number kind)) }
     ensures away { OnOk result (table_of (map kind_number kinds.now) entities.now columns.new
         ≡ lent (table_of (map kind_number kinds.now) entities.now columns.old) (kind_number kind)) }
     ensures err { OnErr result (columns.new ≡ columns.old) }
@@ -122,11 +124,15 @@ pub(crate) fn share_in(
         (table_of (map kind_number kinds.now) entities.now columns.old) (kind_number kind)) }
     ensures kind { IfOk result (λ column. (arc_value column).kind ≡ kind_number kind) }
     ensures cells { IfOk result (λ column. map (λ cell. Some cell) (arc_value column).cells
-        ≡ kind_cells (table_of (map kind_number kinds.now) entities.now columns.old) (kind_number kind)) }
+        ≡ kind_cells (table_of (map kind_number kinds.now) entities.now columns.old)
+        (kind_number kind)) }
     ensures ok { OnOk result (table_of (map kind_number kinds.now) entities.now columns.new
-        ≡ shared (table_of (map kind_number kinds.now) entities.now columns.old) (kind_number kind)) }
+        ≡ shared (table_of (map kind_number kinds.now) entities.now columns.old)
+        (kind_number kind)) }
     ensures err { OnErr result ((columns.new ≡ columns.old)
-        ⊎ (table_of (map kind_number kinds.now) entities.now columns.new ≡ shared (table_of (map kind_number kinds.now) entities.now columns.old) (kind_number kind))) }
+        ⊎ (table_of (map kind_number kinds.now) entities.now columns.new
+        ≡ shared (table_of (map kind_number kinds.now) entities.now columns.old)
+        (kind_number kind))) }
     ensures alike { IsAlike (table_of (map kind_number kinds.now) entities.now columns.old)
         (table_of (map kind_number kinds.now) entities.now columns.new) }
     ensures table { IsTable (map kind_number kinds.now) entities.now columns.new }
@@ -149,7 +155,8 @@ pub(crate) fn seen_in<'a>(
         (table_of (map kind_number kinds.now) entities.now columns.now) (kind_number kind)) }
     ensures kind { result.now.kind ≡ kind_number kind }
     ensures cells { map (λ cell. Some cell) result.now.cells
-        ≡ kind_cells (table_of (map kind_number kinds.now) entities.now columns.now) (kind_number kind) }
+        ≡ kind_cells (table_of (map kind_number kinds.now) entities.now columns.now)
+        (kind_number kind) }
 {
     let Some(place) = kind_place(kinds, kind) else {
         unreachable!();

@@ -5,7 +5,7 @@ ghost use Rattle.std.specs.Prelude.{◌≡◌, ◌<◌, ◌++◌, length, revers
 /// The numbers of the rows of a table in the order of their entities: as ids rise.
 #[derive(Clone, Copy)]
 pub enum RowOrder<'a> {
-    /// Each row number in turn, from 0.
+    /// Each row number in order, from 0.
     Rising,
     /// The row numbers of the first list, and then those of the second one from its end to its start.
     Listed(&'a [u32], &'a [u32]),
@@ -35,7 +35,7 @@ impl RowOrder<'_> {
     ghost use Rattle.std.specs.Prelude.{ℕ, IsTrue};
     ghost use Rattle.column_store.specs.RowOrder.{numbers_from, rows_in};
 
-    /// Whether it is each row number in turn.
+    /// Whether it is each row number in order.
     pub fn is_rising(&self) -> bool
         ensures { IsTrue result → (count : ℕ) → rows_in count self.now ≡ numbers_from 0 count }
     {

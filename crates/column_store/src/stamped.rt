@@ -169,7 +169,8 @@ impl StampedColumn {
         self.stamps[place].changed = tick;
     }
 
-    /// The words of a field of the components from a place on, as many as there is room for: 0 where the kind has no such field.
+    /// The words of a field of the components from a place on, as many as there is room for. A word is 0 where the
+    /// kind has no such field.
     pub fn read_field(&self, from: usize, field: usize, values: &mut [i64])
         requires { from + length values.old ≤ length self.now.cells }
         ensures length { length values.new ≡ length values.old }

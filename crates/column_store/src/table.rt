@@ -28,9 +28,10 @@ use std::alloc::{AllocError, Global};
 use std::marker::Model;
 use std::sync::Arc;
 
-/// The entities of one archetype with their components: a row for each entity, and a column for each kind, in rising kinds. A row comes in at
-/// the end, and where one is removed the last one takes its place; beside them their order in rising ids is kept. A column can leave and
-/// come home, and be read elsewhere too. To contracts one that is away has the cells with which it left.
+/// The entities of one archetype with their components: a row for each entity, and a column for each kind, in rising
+/// kinds. A row comes in at the end, and where one is removed the last one takes its place. The table also keeps
+/// their order in rising ids. A column can leave and come home, and be read elsewhere too. To contracts one that is
+/// away has the cells with which it left.
 pub struct Table {
     kinds: Vec<Kind>,
     entities: EntityList,
@@ -96,8 +97,9 @@ impl Table {
         })
     }
 
-    /// A table of the same kinds and rows, where all columns are at home. The columns of the copy are its alone, whoever reads those of
-    /// this table: a later write to one of the two is none to the other. Where an allocation fails there is no copy.
+    /// A table of the same kinds and rows, where all columns are at home. The columns of the copy are its alone,
+    /// whoever reads those of this table. A later write to one of the two is none to the other. Where an allocation
+    /// fails there is no copy.
     pub fn copy(&self, alloc: Global) -> Result<Self, AllocError>
         requires { IsTrue (list_all is_home self.now.standings) }
         ensures { IfOk result (λ copy. copy ≡ owned self.now) }
@@ -387,8 +389,8 @@ impl Table {
         Ok(column)
     }
 
-    /// A column that is at home, to be read elsewhere too. No row is copied. After an error the table is as it was, without the room that was made,
-    /// or it stands as if the column were read elsewhere.
+    /// A column that is at home, to be read elsewhere too. No row is copied. After an error the table is as it was,
+    /// without the room that was made, or it is as if the column were read elsewhere.
     pub fn share(
         &mut self,
         alloc: Global,

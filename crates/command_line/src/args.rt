@@ -12,7 +12,7 @@ use std::alloc::{AllocError, Global};
 /// The work that a command line asks for.
 #[derive(Clone, Copy, PartialEq, Eq, Debug)]
 pub enum Work {
-    /// So many runs of the schedule, and the world that they leave.
+    /// A number of runs of the schedule, and the world that they leave.
     Run {
         /// How many runs, at most 1,000,000.
         times: u32,
@@ -98,7 +98,8 @@ impl LineFault {
         }
     }
 
-    /// What an answer of the parser without matches is here: help where it was asked for, else a line at fault, reported by the parser's text.
+    /// An answer of the parser without matches means this here. It is help where it was asked for. Otherwise it is a
+    /// line at fault, reported by the parser's text.
     pub fn of(alloc: Global, error: &Error) -> LineFault
         ensures memory { kind_of error.now ≡ ErrorKind.OutOfMemory → result ≡ LineFault.Memory }
         ensures told { IsReportedOf (kind_of error.now) result }

@@ -15,7 +15,7 @@ use std::convert::AsStr;
 pub struct Argument {
     /// The name by which its value is asked for.
     pub id: &'static str,
-    /// Its long name, of an option; empty of one that is given at its place, which has to be there.
+    /// Its long name, of an option; empty of one that is given at its place, which must not be missing.
     pub long: &'static str,
     /// What help calls its value.
     pub value: &'static str,
@@ -45,8 +45,8 @@ pub struct Grammar {
 }
 
 impl Grammar {
-    /// What the words of a command line name, of which the first is the program's own name. Where `--help` stands in a line it is asked for,
-    /// whatever else is at fault there.
+    /// The meaning of the words of a command line, of which the first is the program's own name. Where a line has
+    /// `--help` it is asked for, whatever other fault the line has.
     pub fn read<'a>(&self, alloc: Global, words: &'a [String]) -> Result<ArgMatches<'a>, LineFault>
         ensures ok { IfOk result (IsMatched self.now words.now) }
         ensures err { IfErr result (IsUnmatched self.now words.now) }

@@ -83,10 +83,11 @@ const GRAMMAR: Grammar = Grammar {
 };
 
 impl<'a> Args<'a> {
-    /// Reads the words of a command line, of which the first is the program's own name: `run FILE [--times N] [--workers W] [--trace OUT]`,
-    /// where N is from 0 to 1,000,000, and 1 if it is left out, and W from 0 to 64, and 0 if it is left out; `check FILE TRACE`;
-    /// `replay FILE TRACE`; or `ambiguities FILE`. Numbers are spelled in decimal digits alone. Where `--help` stands in a line it is asked for,
-    /// whatever else is at fault there.
+    /// Reads the words of a command line, of which the first is the program's own name. It is
+    /// `run FILE [--times N] [--workers W] [--trace OUT]`, `check FILE TRACE`, `replay FILE TRACE` or
+    /// `ambiguities FILE`. N is from 0 to 1,000,000, and 1 if it is left out. W is from 0 to 64, and 0 if it is left
+    /// out. Numbers are spelled in decimal digits alone. Where a line has `--help` it is asked for, whatever other
+    /// fault the line has.
     pub fn read(alloc: Global, words: &'a [String]) -> Result<Args<'a>, LineFault>
         ensures within { IfOk result (λ args. IsWithin args.work) }
         ensures ok { IfOk result (λ args. asked_for asked_by ecsrun_program words.now

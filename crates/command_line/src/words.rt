@@ -12,8 +12,9 @@ const FIRST_ROOM: usize = 256;
 
 const MOST_DOUBLINGS: u32 = 24;
 
-/// The words of the command line, of which the first is the program's own name, each as a text. In a word that is no text each byte that is
-/// in no letter is written as a NUL, which stands in no word, and the letter of its number. Fails only for a failed allocation.
+/// The words of the command line, of which the first is the program's own name, each as a text. In a word that is no
+/// text each byte that is in no letter is written as a NUL and the letter of its number. No word has a NUL. Fails
+/// only for a failed allocation.
 pub fn words_of<R: Env + AllocGlobal>(rt: &R) -> Result<Vec<String>, LineFault>
     ensures { IfErr result (λ fault. fault ≡ LineFault.Memory) }
 {

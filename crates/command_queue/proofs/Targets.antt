@@ -24,7 +24,7 @@ use Rattle.archetype_store.specs.declared.change.EntityChange.{EntityChange}
 use Rattle.archetype_store.specs.Changes.{components_left, slot_left, change_at, changed, CanChange}
 use Rattle.command_queue.specs.Pending.{is_left_alive, place_of, put_change, AreChanges, IsKept}
 use Rattle.command_queue.proofs.Puts.{at_place, put_first, put_again, place_first, place_again, each_put, apart_put, change_put, change_none, change_some}
-use Rattle.archetype_store.proofs.Known.{same_pair}
+use Rattle.archetype_store.proofs.RowNumbers.{same_pair}
 use Rattle.archetype_store.proofs.OneChange.{map_index-updated, can_change, row_rising, row_components, slot_stays}
 
 -- ---- lists

@@ -55,7 +55,7 @@ fn gather(
 }
 
 /// Does the commands of the buffers of these numbers at a tick: one buffer after the other, each in its order of issue. An entity that several
-/// commands change is moved once. The number of commands that were passed over, cut at 2^62. Where an allocation fails nothing has changed.
+/// commands change is moved once. The number of commands that were skipped, cut at 2^62. Where an allocation fails nothing has changed.
 pub fn apply(
     alloc: Global,
     world: &mut World,
@@ -71,7 +71,8 @@ pub fn apply(
     requires apart { AreApart (spawned_by (commands_of buffers.now order.now)) }
     ensures applied { IfOk result
         (λ passed. record { slots = world.new.state.slots; passed_over = passed }
-        ≡ apply_buffer tick (record { slots = world.old.state.slots; passed_over = 0 }) (commands_of buffers.now order.now)) }
+        ≡ apply_buffer tick (record { slots = world.old.state.slots; passed_over = 0 })
+        (commands_of buffers.now order.now)) }
     ensures kept { OnOk result (world.new.state
         ≡ with_slots (λ _. world.new.state.slots) world.old.state) }
     ensures err { OnErr result (world.new ≡ world.old) }

@@ -40,7 +40,8 @@ pub(crate) fn insert_kept(
     ensures entity { change.new.entity ≡ change.old.entity }
     ensures lasts { is_left_alive change.new.fate ≡ true }
     ensures row { OnOk result (components_left change.new.fate
-        ≡ insert_component tick (value_number value) (value_words value) (components_left change.old.fate)) }
+        ≡ insert_component tick (value_number value) (value_words value)
+        (components_left change.old.fate)) }
 {
     match &mut change.fate {
         Fate::Lives(components) => put_component(components, value, tick),

@@ -3,8 +3,8 @@
 use std::alloc::{AllocError, Global};
 use std::collections::BTreeMap;
 
-/// Where a key and its value stand, by bytes of the text. Of a table with a header the key is the header, with its brackets, and there is no value; of an
-/// item of an array there is no key. What isn't there begins and ends at 0.
+/// The places of a key and its value, by bytes of the text. The key of a table with a header is the header, with its
+/// brackets, and it has no value. An item of an array has no key. What isn't there begins and ends at 0.
 #[derive(Clone, Copy, Debug)]
 pub struct Spot {
     /// Where the key begins, and where it ends.
@@ -40,7 +40,7 @@ impl Places {
         self.spots.get(number).copied()
     }
 
-    /// The number of what stands at a key of a table.
+    /// The number of the item at a key of a table.
     pub fn member(
         &self,
         alloc: Global,

@@ -47,7 +47,7 @@ const BAR: u64 = 24;
 // How much stands below the lanes.
 const FOOT: u64 = 40;
 
-/// Where a step stands, by its number from 0.
+/// The place of a step, by its number from 0.
 pub fn step_x(at: u32) -> u64
     ensures { result ≡ x_of_step at }
 {

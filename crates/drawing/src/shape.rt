@@ -25,7 +25,7 @@ pub enum Style {
     Refused,
     /// What races.
     Race,
-    /// What races, and is declared to.
+    /// A pair that races, and is declared to.
     Silenced,
     /// A system that runs.
     Running,
@@ -67,14 +67,14 @@ impl fmt::Display for Style {
     }
 }
 
-/// What is written at a place.
+/// The text at a place.
 #[derive(Clone, Copy)]
 pub enum Label {
     /// The name of a system.
     System(u32),
     /// The name of a set.
     Set(u32),
-    /// How many systems of a set stand there, and the name of the set.
+    /// How many systems of a set are in the box, and the name of the set.
     Members(u32, u32),
     /// The number of a condition.
     Condition(u32),

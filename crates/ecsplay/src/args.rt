@@ -99,8 +99,10 @@ const GRAMMAR: Grammar = Grammar {
 };
 
 impl<'a> Args<'a> {
-    /// Reads the words of a command line, of which the first is the program's own name: `play FILE [--workers W] [--record OUT] [--from RECORD]`,
-    /// where W is from 0 to 64, spelled in decimal digits alone, and 0 if it is left out, or `replay FILE RECORD`. Where `--help` stands in a line it is asked for, whatever else is at fault there.
+    /// Reads the words of a command line, of which the first is the program's own name:
+    /// `play FILE [--workers W] [--record OUT] [--from RECORD]`, where W is from 0 to 64, spelled in decimal digits
+    /// alone, and 0 if it is left out, or `replay FILE RECORD`. Where a line has `--help` it is asked for, whatever
+    /// other fault the line has.
     pub fn read(alloc: Global, words: &'a [String]) -> Result<Args<'a>, LineFault>
         ensures ok { IfOk result (λ args. asked_for asked_by ecsplay_program words.now
             ≡ Some (asked_of args)) }

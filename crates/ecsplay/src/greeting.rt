@@ -8,8 +8,9 @@ use schedule_builder::Built;
 use state_text::{Hex, hex_of};
 use std::alloc::{AllocError, Global};
 
-/// The greeting of a session of the file with this digest, with so many workers: the protocol, the digest, how many systems there are, the
-/// workers, whether the schedule is settled, and whether some query has an `added` or `changed` term.
+/// The greeting of a session of the file with this digest and this number of workers. It has the protocol, the
+/// digest, the number of systems, and the workers. It tells whether the schedule is settled, and whether some query
+/// has an `added` or `changed` term.
 pub fn greeting_of(
     alloc: Global,
     file: [u8; 32],

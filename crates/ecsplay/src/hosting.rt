@@ -19,8 +19,8 @@ use std::io::Write;
 use std::thread::Scope;
 use worker_pool::{NoGate, Workers};
 
-/// The session of a program file, which is to run with so many workers: its engine as its runs begin, and the greeting. The file is refused as a
-/// command that runs it no time is.
+/// The session of a program file, which is to run with this number of workers: its engine as its runs begin, and the
+/// greeting. The file is refused as a command that runs it no time is.
 pub fn session_of(alloc: Global, workers: u8, file: &[u8]) -> Result<Session<ScriptBody>, Fault>
     requires { length file.now ≤ 1048576 }
     ensures opened { IfOk result (IsOpened file.now workers) }
@@ -32,8 +32,8 @@ pub fn session_of(alloc: Global, workers: u8, file: &[u8]) -> Result<Session<Scr
     Ok(Session::new(alloc, engine, digest, greeting))
 }
 
-/// The exit status of a session: 0 where it ended behind `quit` or at the end of the requests. What goes wrong is reported to `faults` in one
-/// line, with status 3.
+/// The exit status of a session: 0 where it ended behind `quit` or at the end of the requests. A failure is reported
+/// to `faults` in one line, with status 3.
 pub fn status_of<E: Write>(alloc: Global, played: Result<(), PlayFault>, faults: &mut E) -> u8
     ensures { EndsWith played result (E.contents faults.old, E.contents faults.new) }
 {

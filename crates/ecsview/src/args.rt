@@ -11,7 +11,7 @@ use command_line::grammar::{Argument, Grammar, Subcommand};
 use command_line::values::{number_between, value_of};
 use std::alloc::Global;
 
-/// What is asked for.
+/// The work that is asked for.
 #[derive(Clone, Copy, PartialEq, Eq, Debug)]
 pub enum Work {
     /// A drawing of the schedule.
@@ -110,9 +110,10 @@ const GRAMMAR: Grammar = Grammar {
 };
 
 impl<'a> Args<'a> {
-    /// Reads the words of a command line, of which the first is the program's own name: `schedule FILE`, `lanes FILE TRACE`, `races FILE`,
-    /// `diverge FILE TRACE OTHER`, `steps FILE TRACE [--run N]` or `explain FILE`, where N is from 1 to 4,294,967,295, spelled in decimal digits alone. Where
-    /// `--help` stands in a line it is asked for, whatever else is at fault there.
+    /// Reads the words of a command line, of which the first is the program's own name: `schedule FILE`,
+    /// `lanes FILE TRACE`, `races FILE`, `diverge FILE TRACE OTHER`, `steps FILE TRACE [--run N]` or `explain FILE`,
+    /// where N is from 1 to 4,294,967,295, spelled in decimal digits alone. Where a line has `--help` it is asked
+    /// for, whatever other fault the line has.
     pub fn read(alloc: Global, words: &'a [String]) -> Result<Args<'a>, LineFault>
         ensures ok { IfOk result (λ args. asked_for asked_by ecsview_program words.now
             ≡ Some (asked_of args)) }

@@ -39,8 +39,8 @@ pub fn schedule_text(alloc: Global, loaded: &Loaded<'_>) -> Result<String, Fault
 // What the drawing of runs has to its right.
 const MARGIN: u64 = 100;
 
-/// The drawing of the runs of a trace, as SVG. A run of which a step may not come is refused; of one that isn't complete the steps that are there are
-/// drawn.
+/// The drawing of the runs of a trace, as SVG. A run of which a step may not come is refused. One that isn't complete
+/// has its recorded steps drawn.
 pub fn lanes_text<T: Read>(
     alloc: Global,
     loaded: &Loaded<'_>,

@@ -22,17 +22,18 @@ use std::alloc::Global;
 use std::io::{Read, Write};
 use streams::writing::write_whole;
 
-/// What is answered to a command: the text that is printed, and the exit status.
+/// The answer to a command: the text that is printed, and the exit status.
 #[derive(Drop)]
 pub struct Shown {
-    /// What is printed.
+    /// The text that is printed.
     pub text: String,
     /// The exit status.
     pub status: u8,
 }
 
-/// Does the work of a command line on a program file and the traces that it names. The text of its answer goes to `out`, whole; what goes wrong is reported
-/// to `faults` in one line, and nothing else is. Gives the exit status: 0 or 1 where all is printed, else that of the fault.
+/// Does the work of a command line on a program file and the traces that it names. The text of its answer goes to
+/// `out`, whole; what goes wrong is reported to `faults` in one line, and nothing else is. Gives the exit status: 0
+/// or 1 where all is printed, otherwise that of the fault.
 pub fn view<F: Read, O: Write, E: Write>(
     alloc: Global,
     args: &Args<'_>,

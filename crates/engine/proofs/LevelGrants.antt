@@ -20,7 +20,7 @@ use Rattle.model.proofs.lists.Members.{from-filter}
 use Rattle.model.proofs.serial.Engine.{after_grant-form}
 use Rattle.body.specs.Steps.{with_slots_in}
 use Rattle.engine.specs.Deferred.{DeferredValue, SpawnersValue, AreInHand, IsDeferredFor, commands_at, no_spawners, noted_each, run_with, spawners_among, with_each_grant}
-use Rattle.engine.proofs.InHand.{in_hand_each, run_with_each}
+use Rattle.engine.proofs.IdsInHand.{in_hand_each, run_with_each}
 use Rattle.model.proofs.lists.Places.{each-where}
 
 -- a list without elements

@@ -1,28 +1,28 @@
-pub mod AtHome
+pub mod BodiesAtHome
 pub mod Stops
-pub mod InHand
+pub mod IdsInHand
 pub mod GrantedIds
 pub mod LevelGrants
-pub mod Syncing
-mod Emptying
-mod Freeing
-mod Idle
-mod SameKindSets
-mod Commanded
-mod Levelling
-pub mod Fresh
-mod Starting
-pub mod Remembering
-pub mod Weaving
-pub mod Placing
-mod Returning
-mod Staging
-mod Recorded
-mod Ended
+pub mod SyncPoint
+mod EmptyLists
+mod SyncPointState
+mod EmptySyncPoint
+mod SameArchetypes
+mod LevelCommands
+mod LevelSystems
+pub mod BeforeStart
+mod SystemStart
+pub mod StateMemories
+pub mod InterleavedSteps
+pub mod JobsOut
+mod SystemFinish
+mod RunStages
+mod RunRecord
+mod RunEnd
 mod Turns
-pub mod Beginning
-pub mod Keeping
-pub mod Agreeing
-pub mod Kept
-mod Alone
+pub mod FirstState
+pub mod BodiesWithin
+pub mod RunAgreement
+pub mod RunKept
+mod TurnAlone
 mod Inputs

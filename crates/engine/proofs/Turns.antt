@@ -31,11 +31,11 @@ use Rattle.engine.specs.Meanings.{body_at, meanings, AllKeepWithin, HasMemories,
 use Rattle.engine.specs.Next.{IsAtRest}
 use Rattle.engine.specs.Stage.{Stage, IsTurn}
 use Rattle.model.proofs.progress.Single.{wide_lawful}
-use Rattle.engine.proofs.Fresh.{interleaved_fresh}
+use Rattle.engine.proofs.BeforeStart.{interleaved_fresh}
 use Rattle.engine.proofs.LevelGrants.{no_elements}
-use Rattle.engine.proofs.Placing.{start-free, apart-held, placed_first, suits_last, means_last}
-use Rattle.engine.proofs.Staging.{holds_there}
-use Rattle.engine.proofs.Remembering.{memories_at, memories_opened, memories_asked}
+use Rattle.engine.proofs.JobsOut.{start-free, apart-held, placed_first, suits_last, means_last}
+use Rattle.engine.proofs.RunStages.{holds_there}
+use Rattle.engine.proofs.StateMemories.{memories_at, memories_opened, memories_asked}
 
 -- ---- what is next, told of a core
 

@@ -8,9 +8,10 @@ use std::marker::Model;
 use std::mem;
 use worker_pool::{Mode, Pool};
 
-/// Workers that stand from one call to the next, so that no call starts them anew. They come as jobs want them, in the scope of the mode of a run,
-/// and sleep between runs. A run that stops sends them away, and the next one has new ones. `end` sends them away for good: a scope in which they
-/// stand doesn't end before. Contracts see the jobs that are out between two calls: none.
+/// Workers that live from one call to the next, so that no call starts them anew. They come as jobs want them, in the
+/// scope of the mode of a run, and sleep between runs. A run that stops sends them away, and the next one has new
+/// ones. `end` sends them away for good: a scope in which they run doesn't end before. Contracts see the jobs that
+/// are out between two calls: none.
 #[derive(Drop)]
 pub struct Crew<B: Body> {
     pool: Option<Pool<B>>,
@@ -36,7 +37,7 @@ impl<B: Body> Model for Crew<B> {
 }
 
 impl<B: Body> Crew<B> {
-    /// A crew of which nobody stands yet.
+    /// A crew without a worker yet.
     pub fn new() -> Self
         ensures { result ≡ [] }
     {

@@ -63,9 +63,10 @@ impl Granted {
     }
 }
 
-/// What the systems of a schedule leave for the sync points of their levels. Contracts see the systems of each level in schedule order, those of
-/// them that have commands with how many ids each is granted, and by system the commands and the ids granted. The room of a buffer is used
-/// again once its commands are done, and that of a list of ids by a later grant.
+/// What the systems of a schedule leave for the sync points of their levels. Contracts see the systems of each level
+/// in schedule order, and those of them that have commands, with how many ids each is granted. By system they see the
+/// commands and the ids granted. The room of a buffer is used again once its commands are done, and that of a list of
+/// ids by a later grant.
 #[derive(Drop)]
 pub struct Deferred {
     levels: Vec<Level>,
@@ -223,7 +224,7 @@ impl Deferred {
     }
 
     /// A sync point: the commands of the systems of the level are done, the ids granted to them that were not spawned are freed, and then the
-    /// systems of the level above it are granted theirs. Whether there were commands: else the kind sets stay as they are. After a stop the
+    /// systems of the level above it are granted theirs. Whether there were commands: else the archetypes stay as they are. After a stop the
     /// state is of no more use.
     pub(crate) fn sync(
         &mut self,

@@ -80,8 +80,9 @@ impl<B: Body> Model for Engine<B> {
 }
 
 impl<B: Body> Engine<B> {
-    /// An engine that is not spoiled. It is refused with `Count` where there isn't a body and a memory for each system and a memory for each
-    /// condition, each memory with a cursor for each event reader, else with `Misfit` for the least system whose body doesn't fit its parameters; what was handed in is dropped.
+    /// An engine that is not spoiled. It is refused with `Count` unless each system has a body and a memory, and each
+    /// condition a memory. Each memory must have a cursor for each event reader. Otherwise it is refused with
+    /// `Misfit` for the least system whose body doesn't fit its parameters. After a refusal the parts are dropped.
     pub fn new(alloc: Global, built: Built, bodies: Vec<B>, state: State) -> Result<Self, NewFault>
         ensures ok { IfOk result (λ engine. engine
             ≡ record {
@@ -113,13 +114,15 @@ impl<B: Body> Engine<B> {
         })
     }
 
-    /// Runs the schedule `times` times, in the mode. Each run opens and does what is ready while fewer systems run than the mode has room for;
-    /// when nothing may start, it waits for a system that ends. It answers one trace for each run. `Memory` where an allocation fails,
-    /// `ClockSpent` where a step has no next tick or an event no number, `IdsSpent` where the opening or a sync point lacks the ids of a level,
-    /// `BodyFault` where a body refuses, `NoWorker` where a thread couldn't be started. Each fault spoils the engine: from then on every run
-    /// answers `Spoiled` and changes nothing. After a fault the state of the run is gone, and nothing is said of the state. The bodies come home,
-    /// mean what they meant and fit, unless a thread could not be started in a mode whose workers don't stand. Where the schedule is settled,
-    /// the state agrees with what any as many runs with true answers leave of any state that agrees with the one before.
+    /// Runs the schedule `times` times, in the mode. Each run opens and does what is ready while fewer systems run
+    /// than the mode has room for. When nothing may start, it waits for a system that ends. It answers one trace for
+    /// each run. `Memory` where an allocation fails, `ClockSpent` where a step has no next tick or an event no
+    /// number. `IdsSpent` where the opening or a sync point lacks the ids of a level. `BodyFault` where a body
+    /// refuses, `NoWorker` where a thread couldn't be started. Each fault spoils the engine: from then on every run
+    /// answers `Spoiled` and changes nothing. After a fault the state of the run is gone, and nothing is said of the
+    /// state. The bodies come home, mean what they meant and fit, unless a thread could not be started in a mode with
+    /// one for each start. Where the schedule is settled, the state agrees with what any as many runs with true
+    /// answers leave. They begin at any state that agrees with the one before.
     pub fn run<'s, M: Mode<'s>>(
         &mut self,
         alloc: Global,
@@ -150,7 +153,8 @@ impl<B: Body> Engine<B> {
         traces
     }
 
-    /// Runs the schedule as `run` does, with the workers of a crew, who stand afterwards: the next call by it starts none anew.
+    /// Runs the schedule as `run` does, with the workers of a crew, who stay afterwards: the next call by it starts
+    /// none anew.
     pub fn run_by<'s, M: Mode<'s>>(
         &mut self,
         alloc: Global,

@@ -87,8 +87,12 @@ fn has_memories(built: &Built, state: &State) -> bool
 fn have_systems_cursors(built: &Built, state: &State) -> bool
     requires { length state.now.systems ≡ length built.now.systems }
     ensures { MatchBool result
-        ((n : ℕ) → n < length built.now.systems → length (memory_of_system state.now n).cursors ≡ length (params_of built.now n).reads)
-        ((n : ℕ) × (n < length built.now.systems) × (length (memory_of_system state.now n).cursors ≢ length (params_of built.now n).reads)) }
+        ((n : ℕ)
+        → n < length built.now.systems
+        → length (memory_of_system state.now n).cursors ≡ length (params_of built.now n).reads)
+        ((n : ℕ)
+        × (n < length built.now.systems)
+        × (length (memory_of_system state.now n).cursors ≢ length (params_of built.now n).reads)) }
 {
     for system in 0..built.count() {
         if !has_system_cursors(built, state, system) {
@@ -103,8 +107,10 @@ fn has_system_cursors(built: &Built, state: &State, system: u32) -> bool
     requires count { length state.now.systems ≡ length built.now.systems }
     requires known { system < length built.now.systems }
     ensures { MatchBool result
-        (length (memory_of_system state.now system).cursors ≡ length (params_of built.now system).reads)
-        (length (memory_of_system state.now system).cursors ≢ length (params_of built.now system).reads) }
+        (length (memory_of_system state.now system).cursors
+        ≡ length (params_of built.now system).reads)
+        (length (memory_of_system state.now system).cursors
+        ≢ length (params_of built.now system).reads) }
 {
     let cursors = state.memory(system as usize).cursors();
     cursors.len() == built.params(system).reads().len()
@@ -114,8 +120,13 @@ fn has_system_cursors(built: &Built, state: &State, system: u32) -> bool
 fn have_conditions_cursors(built: &Built, state: &State) -> bool
     requires { length state.now.conditions ≡ length built.now.conditions }
     ensures { MatchBool result
-        ((c : ℕ) → c < length built.now.conditions → length (memory_of_condition state.now c).cursors ≡ length (access_of built.now c).reads)
-        ((c : ℕ) × (c < length built.now.conditions) × (length (memory_of_condition state.now c).cursors ≢ length (access_of built.now c).reads)) }
+        ((c : ℕ)
+        → c < length built.now.conditions
+        → length (memory_of_condition state.now c).cursors ≡ length (access_of built.now c).reads)
+        ((c : ℕ)
+        × (c < length built.now.conditions)
+        × (length (memory_of_condition state.now c).cursors
+        ≢ length (access_of built.now c).reads)) }
 {
     for condition in 0..built.condition_count() {
         if !has_condition_cursors(built, state, condition) {
@@ -130,8 +141,10 @@ fn has_condition_cursors(built: &Built, state: &State, condition: u32) -> bool
     requires count { length state.now.conditions ≡ length built.now.conditions }
     requires known { condition < length built.now.conditions }
     ensures { MatchBool result
-        (length (memory_of_condition state.now condition).cursors ≡ length (access_of built.now condition).reads)
-        (length (memory_of_condition state.now condition).cursors ≢ length (access_of built.now condition).reads) }
+        (length (memory_of_condition state.now condition).cursors
+        ≡ length (access_of built.now condition).reads)
+        (length (memory_of_condition state.now condition).cursors
+        ≢ length (access_of built.now condition).reads) }
 {
     let cursors = state.memory_of_condition(condition as usize).cursors();
     cursors.len() == built.condition(condition).access().reads().len()

@@ -12,20 +12,20 @@ use model::KindSets;
 use schedule_builder::Built;
 use std::alloc::{AllocError, Global};
 
-/// The traces of the runs of a call, the core that has taken their steps, and the kind sets that are there between them. The core stands in a box: a
+/// The traces of the runs of a call, the core that has taken their steps, and the archetypes that are there between them. The core stands in a box: a
 /// loop that holds it by itself is dear to check.
 #[derive(Drop)]
 pub(crate) struct Recording<'a> {
     /// The core.
     pub(crate) core: Box<Core<'a>>,
-    /// The kind sets, in which the core knows who meets whom.
+    /// The archetypes, in which the core knows who meets whom.
     pub(crate) sets: KindSets,
     /// The traces, one for each run.
     pub(crate) traces: Vec<Trace>,
 }
 
 impl<'a> Recording<'a> {
-    /// Before the first run of a call. A core that was put by goes on: it finds anew who meets whom only where other kind sets are there.
+    /// Before the first run of a call. A core that was put by goes on: it finds anew who meets whom only where other archetypes are there.
     pub(crate) fn open(
         alloc: Global,
         built: &'a Built,
@@ -46,7 +46,7 @@ impl<'a> Recording<'a> {
         })
     }
 
-    /// Adds the trace of a run, and keeps the kind sets that it recorded last.
+    /// Adds the trace of a run, and keeps the archetypes that it recorded last.
     pub(crate) fn add(&mut self, alloc: Global, trace: Trace) -> Result<(), AllocError>
         requires { is_some (latest_list trace) ≡ true }
         ensures traces { OnOk result (self.new.traces.items ≡ self.old.traces.items ++ trace ∷ []) }
@@ -75,7 +75,7 @@ impl<'a> Recording<'a> {
     }
 }
 
-/// Begins a core again for a run that opens with the kind sets in which it knows who meets whom, and what is recorded of it.
+/// Begins a core again for a run that opens with the archetypes in which it knows who meets whom, and what is recorded of it.
 pub(crate) fn begin(
     alloc: Global,
     built: &Built,

@@ -8,16 +8,16 @@ use model::KindSets;
 use schedule_builder::Built;
 use std::alloc::{AllocError, Global};
 
-/// A core that is put by between runs, and the kind sets in which it knows who meets whom.
+/// A core that is put by between runs, and the archetypes in which it knows who meets whom.
 #[derive(Drop)]
 pub struct RestingCore {
     /// The core.
     pub room: CoreRoom,
-    /// The kind sets.
+    /// The archetypes.
     pub sets: KindSets,
 }
 
-/// A core for a schedule, which knows who meets whom in these kind sets. One that was put by goes on: it finds that anew only where its kind sets are
+/// A core for a schedule, which knows who meets whom in these archetypes. One that was put by goes on: it finds that anew only where its archetypes are
 /// others.
 pub fn core_in<'a>(
     alloc: Global,

@@ -24,8 +24,8 @@ use body::{BodyFault, OpenState, View};
 use schedule_builder::Built;
 use std::alloc::Global;
 
-/// The state within a run: that of the engine, and beside it what systems have deferred to the sync points of their levels. After a stop it is of
-/// no more use.
+/// The state within a run: that of the engine, and the commands that systems have deferred to the sync points of
+/// their levels. After a stop it is of no more use.
 #[derive(Drop)]
 pub struct RunState {
     /// Where it takes its memory.
@@ -37,7 +37,8 @@ pub struct RunState {
 }
 
 impl RunState {
-    /// The opening of a run: the clock moves to the next tick, the event buffers turn, and the systems of the first level are granted their ids.
+    /// The opening of a run. The clock moves to the next tick, the event buffers turn, and the systems of the first
+    /// level are granted their ids.
     pub fn open(&mut self, built: &Built) -> Result<(), Stop>
         requires suits { IsDeferredFor built.now self.old.deferred }
         requires nothing { IsNothingDeferred self.old.deferred }
@@ -89,8 +90,8 @@ impl RunState {
         Ok(answer)
     }
 
-    /// What a system is shown as it starts, with the ids that it was granted, and a buffer for its commands: its run is noted at the tick to come,
-    /// which becomes the clock.
+    /// The view of a system as it starts, with the ids that it was granted, and a buffer for its commands. Its run is
+    /// noted at the tick to come, which becomes the clock.
     pub fn show(&mut self, built: &Built, system: u32) -> Result<Box<View>, Stop>
         requires { MayBeShown built.now system self.old.deferred self.old.state }
         ensures shown { IfOk result (λ view. IsShown built.now system self.old.deferred
@@ -124,7 +125,8 @@ impl RunState {
         Ok(view)
     }
 
-    /// What comes of the body of a system: where it answered, what it wrote is laid over the state, its events are sent, and its commands are kept.
+    /// The end of the body of a system. Where it answered, its writes are laid over the state, its events are sent,
+    /// and its commands are kept.
     pub fn close(
         &mut self,
         system: u32,
@@ -162,9 +164,9 @@ impl RunState {
         Ok(())
     }
 
-    /// A sync point: the clock moves to the next tick, the commands of the systems of the level are done in schedule order at that tick, the ids
-    /// granted to them that were not spawned are freed, and the systems of the level above it are granted theirs. Whether there were commands:
-    /// else the kind sets stay as they are.
+    /// A sync point. The clock moves to the next tick, and the commands of the systems of the level are done in
+    /// schedule order at that tick. The ids granted to them that were not spawned are freed. The systems of the level
+    /// above it are granted theirs. Gives whether there were commands: without any the archetypes stay as they are.
     pub fn sync(&mut self, built: &Built, point: u32) -> Result<bool, Stop>
         requires known { point < built.now.syncs }
         requires home { NoneRunsIn built.now self.old.deferred self.old.state }

@@ -17,7 +17,7 @@ pub enum Turn {
     Collect,
 }
 
-/// A step that a coordinator has done, and whether commands were done with it: only then may other kind sets be there than before.
+/// A step that a coordinator has done, and whether commands were done with it: only then may other archetypes be there than before.
 #[derive(Clone, Copy)]
 pub(crate) struct Done {
     /// The step.

@@ -6,7 +6,7 @@ pub mod Frees
 pub mod Levels
 pub mod Releases
 pub mod Counting
-pub mod Keeping
+pub mod BookShape
 pub mod Living
 pub mod WithRows
 pub mod TakenBack

@@ -14,7 +14,7 @@ use Rattle.entity_table.specs.Rising.{Numbers, insert_rising}
 use Rattle.entity_table.specs.Ids.{slot_at, living_count, vacated, IsBook, IsCounted}
 use Rattle.entity_table.proofs.Edits.{set-written, get_or-update_at, update_at-id}
 use Rattle.entity_table.proofs.Frees.{vacant_from-more}
-use Rattle.entity_table.proofs.Keeping.{room_for_one}
+use Rattle.entity_table.proofs.BookShape.{room_for_one}
 use Rattle.entity_table.proofs.Grants.{GrantsLeast, grants_least, grants_next}
 use Rattle.entity_table.proofs.Counting.{count-grant}
 

@@ -25,7 +25,11 @@ impl Model for EntityMeta {
 
     ghost Value = { Slot };
 
-    ghost view = { λ p. record { generation = p.generation; status = status_of p.status; row = [] } };
+    ghost view = { λ p. record {
+      generation = p.generation;
+      status = status_of p.status;
+      row = [];
+    } };
 }
 
 impl EntityMeta {
@@ -63,7 +67,7 @@ impl EntityMeta {
         self.generation
     }
 
-    /// What the index is.
+    /// The status of the index.
     pub fn status(&self) -> Status
         ensures { status_of result ≡ self.now.status }
     {

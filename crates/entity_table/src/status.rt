@@ -1,6 +1,6 @@
 // What an index can be.
 
-/// What an index of the id book is.
+/// The status of an index of the id book.
 #[derive(Clone, Copy, PartialEq, Eq)]
 pub enum Status {
     /// It can be granted.

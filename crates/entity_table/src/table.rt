@@ -26,8 +26,9 @@ pub const MOST_INDICES: usize = 1_048_576;
 /// The id book: for each index its generation and what it is. Contracts see the slots by index, without components. An index past
 /// the end is vacant at generation 1.
 ///
-/// The vacant indices stand apart, the least first: a grant of n ids among k vacant ones takes a time that grows as n times the
-/// logarithm of k, however many indices there are. Room for every index to be vacant is made by the grant that brings it.
+/// The vacant indices are kept apart, the least first. The time of a grant of n ids among k vacant ones grows as n
+/// times the logarithm of k, however many indices there are. Room for every index to be vacant is made by the grant
+/// that brings it.
 #[derive(Drop)]
 pub struct EntityTable {
     places: Vec<EntityMeta>,
@@ -98,7 +99,7 @@ impl EntityTable {
         }
     }
 
-    /// What an index is.
+    /// The status of an index.
     pub fn status(&self, index: u32) -> Status
         ensures { status_of result ≡ (slot_at self.now index).status }
     {
@@ -151,10 +152,11 @@ impl EntityTable {
         Ok(granted)
     }
 
-    /// Grants several numbers of ids at once, as a grant of each after the others would: the least vacant indices, at their
-    /// generations, first those of the first number. They come into a list for each number, in place of what was there: lists that
-    /// are long enough take no memory. It makes the room that `settle`, `release` and `despawn` need later. It is refused where fewer
-    /// indices are left than are asked for in all, and where an allocation fails. After an error nothing of the book has changed.
+    /// Grants several numbers of ids at once, as a grant of each after the others would. They are the least vacant
+    /// indices, at their generations, first those of the first number. They come into a list for each number, in
+    /// place of the earlier ones: lists that are long enough take no memory. It makes the room that `settle`,
+    /// `release` and `despawn` need later. It is refused where fewer indices are left than are asked for in all, and
+    /// where an allocation fails. After an error nothing of the book has changed.
     pub fn grant_level(
         &mut self,
         alloc: Global,

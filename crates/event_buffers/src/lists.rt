@@ -91,8 +91,9 @@ impl EventList {
     }
 }
 
-/// Events of some kinds, a list for each, in the order in which the kinds are named. Contracts see the kinds by number, and the lists. Beside
-/// them stand lists that were, whose room is used again: so who opens it takes no memory once it was opened for as many kinds and events.
+/// Events of some kinds, a list for each, in the order in which the kinds are named. Contracts see the kinds by
+/// number, and the lists. Earlier lists are kept as scratch: an opening takes no memory once it was opened for as
+/// many kinds and events.
 #[derive(Drop)]
 pub struct EventLists {
     lists: Vec<EventList>,
@@ -135,8 +136,9 @@ impl EventLists {
         Ok(())
     }
 
-    /// Opens a list for each of these kinds, in the room of the lists that were: what is kept of the kind from a cursor on, in order. Where
-    /// there is no cursor, from the first number on. After an error it is to be opened again.
+    /// Opens a list for each of these kinds, with the earlier lists as scratch. It has the kept events of the kind
+    /// from a cursor on, in order. Where there is no cursor, from the first number on. After an error it is to be
+    /// opened again.
     pub fn open_unread(
         &mut self,
         alloc: Global,

@@ -1,3 +1,3 @@
 mod Moves
 mod Rows
-mod Keeping
+mod BodiesWithin

@@ -1,5 +1,5 @@
 pub mod Judging
-pub mod Keeping
+pub mod AcceptedSteps
 pub mod Telling
 pub mod Counted
 pub mod Rows

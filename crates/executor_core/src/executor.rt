@@ -24,9 +24,9 @@ use schedule_builder::Built;
 use std::alloc::{AllocError, Global};
 use std::marker::Model;
 
-/// What one run of a schedule has accepted. Contracts speak of each history for which a core stands, by `Stands`: such a
-/// history is lawful, and has the latest step first. Beside it stand the kind sets that the run records, if it does: a core doesn't keep
-/// them, but has for each system and condition the systems that meet it by the latest.
+/// The accepted steps of one run of a schedule. Contracts speak of each history that a core represents, by `Stands`:
+/// such a history is lawful, and has the latest step first. With it come the archetypes that the run records, if it
+/// does. A core doesn't keep them, but has for each system and condition the systems that meet it by the latest.
 pub struct Core<'a> {
     built: &'a Built,
     begun: NumberSet,
@@ -89,7 +89,8 @@ impl<'a> Model for Core<'a> {
 }
 
 impl<'a> Core<'a> {
-    /// A core that has accepted nothing, of a run that records no kind sets. Beside this one only calls by which a run begins take memory.
+    /// A core that has accepted nothing, of a run that records no archetypes. Apart from this one only calls by which
+    /// a run begins take memory.
     pub fn new(alloc: Global, built: &'a Built) -> Result<Self, AllocError>
         ensures schedule { IfOk result (λ core. core.schedule ≡ built.now) }
         ensures stands { IfOk result (λ core. Stands core None []) }
@@ -117,7 +118,7 @@ impl<'a> Core<'a> {
         })
     }
 
-    /// A core that has accepted nothing, of a run that records kind sets: these at its opening.
+    /// A core that has accepted nothing, of a run that records archetypes: these at its opening.
     pub fn new_in(alloc: Global, built: &'a Built, sets: &KindSets) -> Result<Self, AllocError>
         ensures schedule { IfOk result (λ core. core.schedule ≡ built.now) }
         ensures stands { IfOk result (λ core. Stands core (Some (sets.now ∷ [])) []) }
@@ -127,7 +128,7 @@ impl<'a> Core<'a> {
         Ok(core)
     }
 
-    /// Begins again for a run that records kind sets: these at its opening. Where an allocation fails the core stays as it was.
+    /// Begins again for a run that records archetypes: these at its opening. Where an allocation fails the core stays as it was.
     pub fn begin_in(&mut self, alloc: Global, sets: &KindSets) -> Result<(), AllocError>
         ensures stands { OnOk result (Stands self.new (Some (sets.now ∷ [])) []) }
         ensures schedule { self.new.schedule ≡ self.old.schedule }
@@ -138,7 +139,7 @@ impl<'a> Core<'a> {
         Ok(())
     }
 
-    /// The same where the kind sets at the opening are those by which it was found last who meets whom.
+    /// The same where the archetypes at the opening are those by which it was found last who meets whom.
     pub fn begin_same(&mut self, alloc: Global) -> Result<(), AllocError>
         ensures stands { OnOk result ((sets : List ℕ) → AreMeetings self.old sets
             → Stands self.new (Some (sets ∷ [])) []) }
@@ -159,8 +160,9 @@ impl<'a> Core<'a> {
         self.judge(step)
     }
 
-    /// Takes a step: accepted exactly where it may come, else its first fault is returned and nothing changes. Of a run that records kind
-    /// sets a sync point is taken by `sync_in`: after one that is taken here nothing is known of such a core.
+    /// Takes a step. It is accepted exactly where it may come. Otherwise its first fault is returned and nothing
+    /// changes. In a run that records archetypes a sync point is taken by `sync_in`. After one that is taken here
+    /// nothing is known of such a core.
     pub fn step(&mut self, step: Step) -> Result<(), StepFault>
         ensures accepts { (sets : Option (List (List ℕ))) (h : List Step) → Stands self.old sets h
             → IsOk result ↔ May (recording self.old.schedule sets) h step }
@@ -191,8 +193,8 @@ impl<'a> Core<'a> {
         self.take(step);
     }
 
-    /// Takes a sync point of a run that records kind sets: these after it. Accepted exactly where it may come, else its first fault is returned and
-    /// nothing changes.
+    /// Takes a sync point of a run that records archetypes: these after it. It is accepted exactly where it may come.
+    /// Otherwise its first fault is returned and nothing changes.
     pub fn sync_in(&mut self, sync: u32, sets: &KindSets) -> Result<(), StepFault>
         ensures accepts { (lists : Option (List (List ℕ))) (h : List Step) → Stands self.old lists h
             → IsOk result ↔ May (recording self.old.schedule lists) h (Sync sync) }
@@ -213,7 +215,7 @@ impl<'a> Core<'a> {
         Ok(())
     }
 
-    /// The same for a sync point after which the kind sets are those that were recorded last.
+    /// The same for a sync point after which the archetypes are those that were recorded last.
     pub fn sync_same(&mut self, sync: u32) -> Result<(), StepFault>
         ensures accepts { (lists : Option (List (List ℕ))) (h : List Step) → Stands self.old lists h
             → IsOk result ↔ May (recording self.old.schedule lists) h (Sync sync) }
@@ -234,8 +236,8 @@ impl<'a> Core<'a> {
         Ok(())
     }
 
-    /// What can be done next: of the free systems in schedule order what the first offers that offers anything, else the sync
-    /// point that is accepted. Finishes are not offered.
+    /// The next step that can be done: the offer of the first of the free systems, in schedule order, that offers
+    /// any. If none does, it is the sync point that is accepted. Finishes are not offered.
     pub fn ready(&self) -> Option<Ready>
         ensures choice { (sets : Option (List (List ℕ))) (h : List Step) → Stands self.now sets h
             → IsReady (recording self.now.schedule sets) h result }
@@ -262,7 +264,7 @@ impl<'a> Core<'a> {
         self.syncs() <= self.done()
     }
 
-    /// Each history for which a core stands is lawful, and has no more steps than the schedule has room for.
+    /// Each history that a core represents is lawful, and has no more steps than the schedule has room for.
     pub fn prove_law(&self)
         ensures lawful { (sets : Option (List (List ℕ))) (h : List Step) → Stands self.now sets h
             → IsLawful (recording self.now.schedule sets) h }

@@ -40,7 +40,7 @@ pub(crate) fn clashes_of(alloc: Global, built: &Built) -> Result<Vec<NumberSet>,
     Ok(rows)
 }
 
-/// Makes the rows of systems anew: those that meet each of them where these are the kind sets that are there.
+/// Makes the rows of systems anew: those that meet each of them where these are the archetypes that are there.
 pub(crate) fn renew_met(rows: &mut [NumberSet], built: &Built, sets: &[u32])
     requires { AreRoomy (length built.now.systems) (length built.now.systems) rows.old }
     ensures { AreRows (length built.now.systems) (length built.now.systems)

@@ -10,8 +10,9 @@ use schedule_builder::Built;
 use std::alloc::{AllocError, Global};
 use std::marker::Model;
 
-/// What is recorded of a run: its steps, and where it records them the kind sets of the living entities, at its opening and after each sync
-/// point. Contracts see the steps with the latest first, as a history, and the lists of kind sets with that of the opening first.
+/// The record of a run: its steps, and, where it records them, the archetypes present, at its opening and after each
+/// sync point. Contracts see the steps with the latest first, as a history, and the lists of archetypes with that of
+/// the opening first.
 pub struct Trace {
     steps: Vec<Step>,
     sets: Option<Vec<KindSets>>,
@@ -41,7 +42,7 @@ impl Model for Trace {
 }
 
 impl Trace {
-    /// Of a run without steps that records no kind sets.
+    /// That of a run without steps that records no archetypes.
     pub fn new(alloc: Global) -> Self
         ensures steps { result.steps ≡ [] }
         ensures sets { result.sets ≡ None }
@@ -52,7 +53,7 @@ impl Trace {
         }
     }
 
-    /// Of a run without steps that records kind sets: these at its opening.
+    /// That of a run without steps that records archetypes: these at its opening.
     pub fn new_in(alloc: Global, opening: KindSets) -> Result<Self, AllocError>
         ensures steps { IfOk result (λ trace. trace.steps ≡ []) }
         ensures sets { IfOk result (λ trace. trace.sets ≡ Some (opening ∷ [])) }
@@ -65,8 +66,8 @@ impl Trace {
         })
     }
 
-    /// The same for a run of a schedule, with room for what is recorded of it from its opening to its end: whoever pushes no more takes no
-    /// further memory for steps.
+    /// The same for a run of a schedule, with room for the record from its opening to its end. A caller that pushes
+    /// no more takes no further memory for steps.
     pub fn of_run(alloc: Global, built: &Built, opening: KindSets) -> Result<Self, AllocError>
         ensures steps { IfOk result (λ trace. trace.steps ≡ []) }
         ensures sets { IfOk result (λ trace. trace.sets ≡ Some (opening ∷ [])) }
@@ -79,7 +80,7 @@ impl Trace {
         })
     }
 
-    /// Adds a step: where kind sets are recorded, any but a sync point. Where an allocation fails the trace stays as it was.
+    /// Adds a step: where archetypes are recorded, any but a sync point. Where an allocation fails the trace stays as it was.
     pub fn push(&mut self, step: Step) -> Result<(), AllocError>
         requires plain { IsPlainStep self.old.sets step }
         ensures steps { OnOk result (self.new.steps ≡ step ∷ self.old.steps) }
@@ -90,7 +91,7 @@ impl Trace {
         Ok(())
     }
 
-    /// Adds a sync point, and the kind sets after it, where they are recorded.
+    /// Adds a sync point, and the archetypes after it, where they are recorded.
     pub fn push_sync(&mut self, sync: u32, sets: KindSets) -> Result<(), AllocError>
         ensures steps { OnOk result (self.new.steps ≡ Synced sync ∷ self.old.steps) }
         ensures sets { OnOk result (self.new.sets ≡ with_list sets self.old.sets) }
@@ -115,7 +116,7 @@ impl Trace {
         &self.steps
     }
 
-    /// The kind sets at the opening and after each sync point, if they are recorded.
+    /// The archetypes at the opening and after each sync point, if they are recorded.
     pub fn sets(&self) -> Option<&[KindSets]>
         ensures { self.now.sets ≡ option_map (λ lists. lists.now) result }
     {
@@ -125,7 +126,7 @@ impl Trace {
         }
     }
 
-    /// The kind sets recorded last, if they are recorded.
+    /// The archetypes recorded last, if they are recorded.
     pub fn latest(&self) -> Option<&KindSets>
         ensures { option_map (λ sets. sets.now) result ≡ latest_list self.now }
     {

@@ -17,7 +17,7 @@ use Rattle.model.specs.runs.RunState.{RunState}
 use Rattle.model.proofs.order.Histories.{above_waits}
 use Rattle.model.proofs.serial.Recording.{built-recording, given-recording, serial-recording}
 use Rattle.model.proofs.shape.GivenIds.{ids-free, ids-serial}
-use Rattle.engine.proofs.Fresh.{serial_fresh}
+use Rattle.engine.proofs.BeforeStart.{serial_fresh}
 use Rattle.trace_checker.proofs.Verdicts.{cut_at, history_next, lawful_at, may_at}
 use Rattle.findings.specs.Worlds.{after_text, scene_text, worlds_text}
 

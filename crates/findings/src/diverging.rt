@@ -44,8 +44,9 @@ pub struct Place {
     pub other: Option<Step>,
 }
 
-/// Where two traces part: the first run after which the texts of the worlds differ. All runs of both are taken again, each trace from a state of its own and
-/// each run from the state that the run before it leaves. Of each run number the first trace's run comes first; the first run that is refused ends it.
+/// Where two traces part: the first run after which the texts of the worlds differ. All runs of both are taken again,
+/// each trace from a state of its own. Each run begins at the state that the run before it leaves. For each run
+/// number the first trace's run comes first. The first run that is refused ends it.
 pub fn parting_of(
     alloc: Global,
     built: &Built,
@@ -155,8 +156,8 @@ fn text_of(alloc: Global, runs: u32, state: &State) -> Result<String, Fault>
     Ok(text_of_world(alloc, runs, state.world(), state.passed_over())?)
 }
 
-/// The first step in which two traces differ: each run before its run has the same steps in both, as those before it in its run are. None where all runs
-/// have the same steps; a run that one trace alone has then has none.
+/// The first step in which two traces differ. Each run before its run has the same steps in both, and so do the steps
+/// before it in its run. None where all runs have the same steps; a run that one trace alone has then has none.
 pub fn first_difference(one: &[Trace], other: &[Trace]) -> Option<Place>
     ensures { IsDifferenceOf one.now other.now result }
 {

@@ -20,7 +20,7 @@ pub struct Turn {
     pub swapped: bool,
 }
 
-/// A list of one run on one thread, by these answers of conditions. It records no kind sets.
+/// A list of one run on one thread, by these answers of conditions. It records no archetypes.
 pub fn list_of(
     alloc: Global,
     built: &Built,

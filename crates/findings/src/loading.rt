@@ -30,7 +30,7 @@ pub struct Loaded<'a> {
     pub sets: Sets<'a>,
 }
 
-/// What a document declares, whose text is no longer than a program file may be.
+/// The declarations of a document, whose text is no longer than a program file may be.
 pub fn load<'a>(alloc: Global, document: &'a Table) -> Result<Loaded<'a>, Fault>
     ensures loaded { IfOk result (λ found. (bytes : Option (List ℕ))
         → IfSome bytes IsShortFile

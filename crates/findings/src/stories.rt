@@ -20,8 +20,8 @@ use schedule_builder::Built;
 use script::ScriptBody;
 use std::alloc::Global;
 
-/// The runs of a trace, taken again one after the other: how many there are, and the world after each sync point of the run that is asked for, counted
-/// from 1, or of all. Each world is printed as one behind the runs before it.
+/// The runs of a trace, taken again one after the other. It has their number, and the world after each sync point of
+/// the run that is asked for, counted from 1, or of all. Each world is printed as one behind the runs before it.
 pub fn story_of(
     alloc: Global,
     built: &Built,

@@ -36,8 +36,8 @@ pub struct Witness {
     pub behind: RunOutcome,
 }
 
-/// A witness of a pair, from the state with which the first run begins: in each of its lists the two come in one of the orders, and the list is lawful and
-/// complete, with true answers. None where no list was found.
+/// A witness of a pair, from the state with which the first run begins. In each of its lists the two come in one of
+/// the orders. The list is lawful and complete, with true answers. None where no list was found.
 pub fn witness_of(
     alloc: Global,
     built: &Built,

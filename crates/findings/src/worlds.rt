@@ -21,7 +21,7 @@ use trace_checker::replay::take;
 
 /// The worlds after the sync points of a lawful run, by the number of runs before it, from its opening on: of each the numbers of the run and of the step, and the
 /// sync point, in a line of its own, and then its text, as a world behind the runs before it. The steps are taken as a replay takes them, and neither recorded
-/// answers nor recorded kind sets are compared here.
+/// answers nor recorded archetypes are compared here.
 pub(crate) fn worlds_of<B: Body>(
     alloc: Global,
     built: &Built,

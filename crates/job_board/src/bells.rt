@@ -9,8 +9,8 @@ const ROUNDS: usize = 20;
 
 const LOOKS: usize = 100;
 
-/// What some ring, and others wait for. Its calls promise nothing, since no proof can name what an atomic word holds: what is proved of a board holds
-/// however often a bell rings, and whenever it is heard.
+/// What some ring, and others wait for. Its calls promise nothing, since no proof can name what an atomic word holds.
+/// All that is proved of a board holds however often a bell rings, and whenever it is heard.
 pub trait Ring {
     /// How often it has rung. Who waits asks this first, then looks for what it waits for, and sleeps if it finds nothing.
     fn heard(&self) -> u64;

@@ -18,8 +18,8 @@ use std::sync::Arc;
 pub struct Board;
 
 impl Board {
-    /// The lead and the hands of a new board, on which nothing is posted. Each slot is the lead's. A hand has looked once whether the board is closed, and
-    /// has done nothing else.
+    /// The lead and the hands of a new board, on which nothing is posted. Each slot is the lead's. A hand has looked
+    /// once whether the board is closed, and has done nothing more.
     pub fn new<T: Task>(
         alloc: Global,
         slots: usize,

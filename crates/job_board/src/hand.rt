@@ -26,7 +26,8 @@ pub struct Hand<T: Task> {
     // The numbers of the jobs that it holds, each with its slot, in the order of the slots that its seat holds.
     held: VecDeque<(JobNumber, usize)>,
     ghost seated: { seat.table_id ≡ (arc_value board).shared.table_id },
-    ghost sized: { ((arc_value board).shared.table_id.slots ≡ slots) × ((arc_value board).shared.table_id.words ≡ slots + 1) },
+    ghost sized: { ((arc_value board).shared.table_id.slots ≡ slots)
+        × ((arc_value board).shared.table_id.words ≡ slots + 1) },
     ghost holds: { HoldsEmpty held.items seat.me.1 },
     ghost basket: { IsBasket slots held.items seat.me.0 },
     ghost roomy: { slots ≤ deque_capacity held },
@@ -80,8 +81,12 @@ impl<T: Task> Hand<T> {
     fn try_slot(&mut self, slot: usize) -> Option<(JobNumber, T::Job)>
         requires { slot < hand_slots self.old }
         ensures taken { MatchOption result
-            ((gained : List (ℕ × ℕ)) × (hand_view self.new ≡ having_read (hand_view self.old) gained) × Missed slot gained)
-            (λ t. (hand_view self.new ≡ after_take (having_read (hand_view self.old) ((slot, posted_word t.0) ∷ [])) t.0 slot t.1) × HasJob (hand_view self.new) t.0 slot t.1) }
+            ((gained : List (ℕ × ℕ))
+            × (hand_view self.new ≡ having_read (hand_view self.old) gained)
+            × Missed slot gained)
+            (λ t. (hand_view self.new ≡ after_take
+            (having_read (hand_view self.old) ((slot, posted_word t.0) ∷ [])) t.0 slot t.1)
+            × HasJob (hand_view self.new) t.0 slot t.1) }
         ensures slots { hand_slots self.new ≡ hand_slots self.old }
     {
         let words = &self.board.shared;
@@ -102,8 +107,14 @@ impl<T: Task> Hand<T> {
     /// Takes a job that waits, with its number: that of the first slot in which it gets one. It tries each slot once at most, and waits for nobody.
     pub fn try_take(&mut self) -> Option<(JobNumber, T::Job)>
         ensures taken { MatchOption result
-            ((gained : List (ℕ × ℕ)) × (hand_view self.new ≡ having_read (hand_view self.old) gained) × MissedAll (hand_slots self.old) gained)
-            (λ t. (gained : List (ℕ × ℕ)) × (slot : ℕ) × (hand_view self.new ≡ after_take (having_read (hand_view self.old) gained) t.0 slot t.1) × HasJob (hand_view self.new) t.0 slot t.1 × FoundJob slot t.0 gained) }
+            ((gained : List (ℕ × ℕ))
+            × (hand_view self.new ≡ having_read (hand_view self.old) gained)
+            × MissedAll (hand_slots self.old) gained)
+            (λ t. (gained : List (ℕ × ℕ)) × (slot : ℕ)
+            × (hand_view self.new
+            ≡ after_take (having_read (hand_view self.old) gained) t.0 slot t.1)
+            × HasJob (hand_view self.new) t.0 slot t.1
+            × FoundJob slot t.0 gained) }
         ensures slots { hand_slots self.new ≡ hand_slots self.old }
     {
         for slot in 0..self.slots {
@@ -129,8 +140,13 @@ impl<T: Task> Hand<T> {
     /// Waits until it takes a job, or has read that the board is closed.
     pub fn take_wait<R: Wait>(&mut self, rt: &R) -> Option<(JobNumber, T::Job)>
         ensures taken { MatchOption result
-            ((gained : List (ℕ × ℕ)) × (hand_view self.new ≡ having_read (hand_view self.old) gained) × ((at : ℕ) × (get_elem? (hand_view self.new).read at ≡ some (hand_slots self.old, 1))))
-            (λ t. (gained : List (ℕ × ℕ)) × (slot : ℕ) × (hand_view self.new ≡ after_take (having_read (hand_view self.old) gained) t.0 slot t.1) × HasJob (hand_view self.new) t.0 slot t.1) }
+            ((gained : List (ℕ × ℕ))
+            × (hand_view self.new ≡ having_read (hand_view self.old) gained)
+            × ((at : ℕ) × (get_elem? (hand_view self.new).read at ≡ some (hand_slots self.old, 1))))
+            (λ t. (gained : List (ℕ × ℕ)) × (slot : ℕ)
+            × (hand_view self.new
+            ≡ after_take (having_read (hand_view self.old) gained) t.0 slot t.1)
+            × HasJob (hand_view self.new) t.0 slot t.1) }
         ensures slots { hand_slots self.new ≡ hand_slots self.old }
     {
         for _ in rt.forever() {

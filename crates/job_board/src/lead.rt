@@ -26,11 +26,14 @@ pub struct Lead<T: Task> {
     slots: usize,
     posted: JobNumber,
     ghost seated: { seat.table_id ≡ (arc_value board).shared.table_id },
-    ghost sized: { ((arc_value board).shared.table_id.slots ≡ slots) × ((arc_value board).shared.table_id.words ≡ slots + 1) },
+    ghost sized: { ((arc_value board).shared.table_id.slots ≡ slots)
+        × ((arc_value board).shared.table_id.words ≡ slots + 1) },
     ghost leads: { seat.me.0.leads ≡ true },
     ghost stack: { IsStack slots free.items seat.me.0 seat.me.1 },
     ghost roomy: { slots ≤ vec_capacity free },
-    ghost counted: { (posted ≡ length seat.me.0.posted) × (posted < 2 ^ 62) × (length seat.me.0.free + length seat.me.0.posted ≡ slots + length seat.me.0.collected) },
+    ghost counted: { (posted ≡ length seat.me.0.posted)
+        × (posted < 2 ^ 62)
+        × (length seat.me.0.free + length seat.me.0.posted ≡ slots + length seat.me.0.collected) },
     ghost tally: { IsTally seat.me.0 },
 }
 
@@ -77,8 +80,14 @@ impl<T: Task> Lead<T> {
     pub fn post(&mut self, job: T::Job) -> Result<JobNumber, T::Job>
         requires { (lead_view self.old).closed ≡ false }
         ensures posted { MatchResult result
-            (λ n. (n ≡ length (lead_view self.old).posted + 1) × (lead_view self.new ≡ after_post (lead_view self.old) n job) × (length (lead_view self.old).posted < lead_slots self.old + length (lead_view self.old).collected) × (n < 2 ^ 62))
-            (λ j. (j ≡ job) × (lead_view self.new ≡ lead_view self.old) × ((length (lead_view self.old).posted ≡ lead_slots self.old + length (lead_view self.old).collected) ⊎ (length (lead_view self.old).posted ≡ 2 ^ 62 - 1))) }
+            (λ n. (n ≡ length (lead_view self.old).posted + 1)
+            × (lead_view self.new ≡ after_post (lead_view self.old) n job)
+            × (length (lead_view self.old).posted
+            < lead_slots self.old + length (lead_view self.old).collected) × (n < 2 ^ 62))
+            (λ j. (j ≡ job) × (lead_view self.new ≡ lead_view self.old)
+            × ((length (lead_view self.old).posted
+            ≡ lead_slots self.old + length (lead_view self.old).collected)
+            ⊎ (length (lead_view self.old).posted ≡ 2 ^ 62 - 1))) }
         ensures slots { lead_slots self.new ≡ lead_slots self.old }
     {
         if self.posted == LAST {
@@ -101,8 +110,13 @@ impl<T: Task> Lead<T> {
     fn collect_slot(&mut self, slot: usize) -> Option<(JobNumber, T::Outcome)>
         requires { slot < lead_slots self.old }
         ensures collected { MatchOption result
-            ((found : ℕ) × ((n : ℕ) → found ≢ finished_word n) × (lead_view self.new ≡ having_read (lead_view self.old) ((slot, found) ∷ [])))
-            (λ t. (lead_view self.new ≡ after_collect (having_read (lead_view self.old) ((slot, finished_word t.0) ∷ [])) t.0 t.1 slot) × Uncollected (lead_view self.old) t.0 × ((j : T.Job) × HasPosted (lead_view self.old) t.0 j × T.answers j t.1)) }
+            ((found : ℕ)
+            × ((n : ℕ) → found ≢ finished_word n)
+            × (lead_view self.new ≡ having_read (lead_view self.old) ((slot, found) ∷ [])))
+            (λ t. (lead_view self.new ≡ after_collect
+            (having_read (lead_view self.old) ((slot, finished_word t.0) ∷ [])) t.0 t.1 slot)
+            × Uncollected (lead_view self.old) t.0
+            × ((j : T.Job) × HasPosted (lead_view self.old) t.0 j × T.answers j t.1)) }
         ensures slots { lead_slots self.new ≡ lead_slots self.old }
     {
         let words = &self.board.shared;
@@ -119,8 +133,15 @@ impl<T: Task> Lead<T> {
     /// Collects the outcome of a job, with its number: that of the first slot that shows one. It looks at each slot once at most, and waits for nobody.
     pub fn try_collect(&mut self) -> Option<(JobNumber, T::Outcome)>
         ensures collected { MatchOption result
-            ((gained : List (ℕ × ℕ)) × (lead_view self.new ≡ having_read (lead_view self.old) gained) × NoneFinished (lead_slots self.old) gained)
-            (λ t. (gained : List (ℕ × ℕ)) × (slot : ℕ) × (lead_view self.new ≡ after_collect (having_read (lead_view self.old) gained) t.0 t.1 slot) × Uncollected (lead_view self.old) t.0 × ((j : T.Job) × HasPosted (lead_view self.old) t.0 j × T.answers j t.1) × FoundOutcome slot t.0 gained) }
+            ((gained : List (ℕ × ℕ))
+            × (lead_view self.new ≡ having_read (lead_view self.old) gained)
+            × NoneFinished (lead_slots self.old) gained)
+            (λ t. (gained : List (ℕ × ℕ)) × (slot : ℕ)
+            × (lead_view self.new
+            ≡ after_collect (having_read (lead_view self.old) gained) t.0 t.1 slot)
+            × Uncollected (lead_view self.old) t.0
+            × ((j : T.Job) × HasPosted (lead_view self.old) t.0 j × T.answers j t.1)
+            × FoundOutcome slot t.0 gained) }
         ensures slots { lead_slots self.new ≡ lead_slots self.old }
     {
         for slot in 0..self.slots {

@@ -23,9 +23,11 @@ impl<T: Task> TableRule<Option<Content<T::Job, T::Outcome>>, View<T::Job, T::Out
     ghost first = { λ _. opener };
 }
 
-/// Between any two steps of its seats a board hands jobs on so: no number is posted twice, what is taken was posted under its number and is taken once, what is
-/// done was taken by the hand that did it, what is collected was done, is collected once, and answers the job that was posted under its number. Only the lead
-/// closes the board, and the word behind those of the slots is 1 exactly where it has: so a seat that has read 1 there has read that the board is closed.
+/// Between any two steps of its seats a board hands jobs on so. No number is posted twice. A taken job was posted
+/// under its number and is taken once. A done job was taken by the hand that did it. A collected one was done, is
+/// collected once, and answers the job that was posted under its number. Only the lead closes the board, and the word
+/// behind those of the slots is 1 exactly where it has. So a seat that has read 1 there has read that the board is
+/// closed.
 pub fn hand_off_holds<T: Task>()
     ensures jobs { (s : _)
         → ⟦<HandOff<T> as TableRule<Option<Content<T::Job, T::Outcome>>, View<T::Job, T::Outcome>, ()>>⟧.holds tt s

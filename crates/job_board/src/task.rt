@@ -5,7 +5,7 @@ pub type JobNumber = u64;
 
 /// A kind of jobs with their outcomes.
 pub trait Task {
-    /// What is posted.
+    /// The job that is posted.
     type Job: Drop + Send;
     /// What comes of a job.
     type Outcome: Drop + Send;

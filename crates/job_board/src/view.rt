@@ -6,7 +6,7 @@ use crate::task::JobNumber;
 use std::alloc::Global;
 use std::collections::LinkedList;
 
-/// What lies in a slot that is posted or finished.
+/// The content of a slot that is posted or finished.
 #[derive(Drop)]
 pub enum Content<J, O> {
     /// A job that nobody has taken yet.
@@ -39,7 +39,7 @@ impl<J: Drop, O: Drop> Content<J, O> {
     }
 }
 
-/// What a seat has done and read. No value of it is made: it is for proofs alone.
+/// The deeds of a seat, and what it has read. No value of it is made: it is for proofs alone.
 pub struct View<J, O> {
     /// Whether it is the lead's.
     pub leads: bool,

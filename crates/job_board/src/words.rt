@@ -9,7 +9,7 @@ use std::alloc::Global;
 /// What lies in a slot.
 pub type Slot<T> = Option<Content<<T as Task>::Job, <T as Task>::Outcome>>;
 
-/// What a seat has done.
+/// The deeds of a seat.
 pub type Deeds<T> = View<<T as Task>::Job, <T as Task>::Outcome>;
 
 /// A seat at the board.

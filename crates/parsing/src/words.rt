@@ -5,7 +5,7 @@ ghost use Rattle.parsing.specs.Words.{AreSpaces, AreWordsOf};
 
 use std::alloc::{AllocError, Global};
 
-/// The words of a text, in order. They have one or more spaces (U+0020 alone) between, and any number stand at either end.
+/// The words of a text, in order. They have one or more spaces (U+0020 alone) between, and any number at either end.
 pub fn words_of<'a>(alloc: Global, text: &'a str) -> Result<Vec<&'a str>, AllocError>
     ensures { IfOk result (λ words. AreWordsOf (map (λ word. word.now) words.items) text.now) }
 {

@@ -6,8 +6,8 @@ ghost use Rattle.printing.specs.CheckText.{verdict_line, check_text};
 use std::alloc::{AllocError, Global};
 use trace_checker::Verdict;
 
-/// The text of what is said of runs, a line for each: `run N complete`, `run N unfinished` or `run N bad STEP SK`, with N from 1, the
-/// number of the step at fault and that of the fault.
+/// The text of the verdicts on runs, a line for each: `run N complete`, `run N unfinished` or `run N bad STEP SK`. N
+/// is from 1; STEP is the number of the step at fault, and K that of the fault.
 pub fn text_of_check(alloc: Global, verdicts: &[Verdict]) -> Result<String, AllocError>
     ensures { IfOk result (λ text. string_bytes text ≡ check_text verdicts.now) }
 {

@@ -7,9 +7,9 @@ use ambiguity_report::Pair;
 use ambiguity_report::report::Racer;
 use std::alloc::{AllocError, Global};
 
-/// The text of an ambiguity report, of systems with these names by number: each pair of what races and a system, a condition by its number
-/// behind `#`, with the datum on which they conflict and `silenced` where that is declared, and whether the schedule is settled, a line
-/// for each.
+/// The text of an ambiguity report, of systems with these names by number. Each pair that races has a line, with the
+/// datum on which they conflict, and `silenced` where that is declared. A condition is told by its number behind `#`.
+/// The last line says whether the schedule is settled.
 pub fn text_of_report(
     alloc: Global,
     names: &[&str],

@@ -14,13 +14,13 @@ use Rattle.script.specs.declared.script_body.ScriptBody.{ScriptBody}
 use Rattle.script.specs.Faults.{fits}
 use Rattle.std.proofs.lemmas.List.{length-map, length-replicate}
 use Rattle.engine.specs.Meanings.{body_at, HasMemories, IsFirstMisfit, Suits}
-use Rattle.engine.proofs.Beginning.{has_first}
+use Rattle.engine.proofs.FirstState.{has_first}
 use Rattle.engine.specs.Meanings as engine
 use Rattle.command_line.specs.declared.args.Work.{Work}
 use Rattle.command_line.specs.Args.{is_recorded}
 use Rattle.streams.specs.Writing.{WritesWhole}
 use Rattle.kinds.specs.declared.value.Value.{Value}
-use Rattle.engine.proofs.AtHome.{unlike}
+use Rattle.engine.proofs.BodiesAtHome.{unlike}
 use Rattle.program.specs.Load.{entity_given, loaded_world}
 use Rattle.engine.specs.FirstState.{first_state}
 use Rattle.program.specs.Setup.{AreScriptsOf, script_fits, script_suits, meanings_of_scripts}

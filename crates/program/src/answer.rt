@@ -1,9 +1,9 @@
 // What is answered to a command.
 
-/// What is answered to a command: the text that is printed, the record of its runs, and the exit status.
+/// The answer to a command: the text that is printed, the record of its runs, and the exit status.
 #[derive(Drop)]
 pub struct Answer {
-    /// What is printed.
+    /// The text that is printed.
     pub text: String,
     /// The text of the traces of its runs, where they are recorded.
     pub traces: String,

@@ -38,7 +38,8 @@ pub enum Fault {
     TraceLine(usize),
     /// This line of a trace, counted from 1, begins another run than the next one, or is a step before any run.
     TraceOrder(usize),
-    /// Where this line of a trace, counted from 1, stands or is missing, kind sets are wanted and missing, or there and not wanted.
+    /// At this line of a trace, counted from 1, archetypes are wanted and missing, or present and not wanted. The
+    /// line itself may be missing.
     TraceLists(usize),
     /// This step of this run of a trace, both counted from 1, is the first that may not come, for this fault.
     BadStep {
@@ -55,8 +56,8 @@ pub enum Fault {
         run: usize,
         step: usize,
     },
-    /// The kind sets that this run of a trace, counted from 1, recorded after this step, or at its opening for 0, are the first that aren't those
-    /// of the living entities there.
+    /// The first recorded archetypes that aren't those of the living entities there. This run of a trace, counted
+    /// from 1, recorded them after this step, or at its opening for 0.
     WrongSets {
         run: usize,
         step: usize,

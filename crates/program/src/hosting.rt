@@ -19,8 +19,8 @@ use schedule_builder::Built;
 use script::ScriptBody;
 use std::alloc::Global;
 
-/// The engine of a program file, which has at most 1,048,576 bytes, as its runs begin: its schedule, its scripts, its entities and resources as
-/// loaded. It is refused as a command that runs the file no time is.
+/// The engine of a program file, which has at most 1,048,576 bytes, as its runs begin. It has the schedule, the
+/// scripts, and the entities and resources as loaded. It is refused as a command that runs the file no time is.
 pub fn engine_of(alloc: Global, bytes: &[u8]) -> Result<Engine<ScriptBody>, Fault>
     requires { length bytes.now ≤ 1048576 }
     ensures begun { IfOk result (IsEngineOf bytes.now) }

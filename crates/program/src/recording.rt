@@ -9,7 +9,7 @@ use executor_core::Trace;
 use std::alloc::AllocError;
 use trace_checker::write::push_run;
 
-/// What is kept of a record once these runs stand behind those that it has: none where their text has more than 67,108,864 bytes.
+/// The record with these runs behind those that it has: none where their text has more than 67,108,864 bytes.
 pub fn note_all(
     text: Option<String>,
     before: u32,

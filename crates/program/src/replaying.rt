@@ -28,8 +28,9 @@ use std::io::Read;
 use trace_checker::replay::{replay, replay_by};
 use trace_checker::{Checker, ReplayFault};
 
-/// The world that the recorded runs of a trace leave. Each is taken again on one thread, from the state that the run before it leaves, the
-/// first from that of these entities and resources as loaded; the first that is refused ends it. The trace is read before the world is made.
+/// The world that the recorded runs of a trace leave. Each is taken again on one thread, from the state that the run
+/// before it leaves. The first begins at these entities and resources as loaded. The first that is refused ends it.
+/// The trace is read before the world is made.
 pub fn replay_trace<T: Read>(
     alloc: Global,
     built: &Built,

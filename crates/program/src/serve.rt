@@ -40,11 +40,12 @@ use streams::writing::{ended_line, write_whole};
 use toml::Table;
 use worker_pool::Mode;
 
-/// Does the work of a command line: reads the program file, and the trace where one is checked or replayed, and writes to `out` the world
-/// that the runs of its schedule in the mode leave, the report of which of its systems race, what it says of the trace, or the world
-/// that the runs of the trace leave. Runs that are recorded are written to `traces` first. What goes wrong is reported to `faults` in one line,
-/// and nothing else is. Gives the exit status: 0 where the work is done, 1 where the content is refused or a run of the trace is not
-/// complete, 3 where input, output, memory or a thread fail.
+/// Does the work of a command line. It reads the program file, and the trace where one is checked or replayed. It
+/// writes the answer to `out`. This is the world that the runs of its schedule in the mode leave, or the report of
+/// its races. Or it is its verdict on the trace, or the world that the runs of the trace leave. Runs that are
+/// recorded are written to `traces` first. A failure is reported to `faults` in one line, and nothing more is. Gives
+/// the exit status. It is 0 where the work is done, 1 where the content is refused or a run of the trace is not
+/// complete. It is 3 where input, output, memory or a thread fail.
 pub fn serve<'s, M: Mode<'s>, F: Read, T: Read, R: Write, O: Write, E: Write>(
     alloc: Global,
     args: &Args<'_>,

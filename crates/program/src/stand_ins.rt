@@ -12,9 +12,10 @@ use std::rt::Files;
 // The numbers of the standard streams end with this one.
 const LAST_STREAM: i32 = 2;
 
-/// Opens the root folder in the place of each standard stream that is closed. The system gives the least number that is free to what is opened, so
-/// without these the next file that the program opens would be such a stream, and get what is written to it. A folder gives and takes no bytes, so
-/// each read and each write of such a stream fails, for as long as what is returned is kept.
+/// Opens the root folder in the place of each standard stream that is closed. The system gives the least free number
+/// to a file that is opened. So without these the next file that the program opens would be such a stream, and get
+/// what is written to it. A folder gives and takes no bytes. So each read and each write of such a stream fails, for
+/// as long as the result is kept.
 pub fn open_stand_ins<R: Files<File = File>>(files: &R) -> [Option<File>; 3]
     ensures { AllByRecursion IsStandIn result }
 {

@@ -85,7 +85,7 @@ pub fn items_at<'a>(table: &'a Table, key: &str) -> Result<&'a [Value], PlaceFau
     }
 }
 
-/// The table at a key, if it is there.
+/// The table at a key, if the key has one.
 pub fn table_at<'a>(table: &'a Table, key: &str) -> Result<Option<&'a Table>, PlaceFault>
     ensures ok { IfOk result (λ inner. HasTable key.now (lent_members inner) (table_view
         table.now)) }
@@ -204,7 +204,7 @@ pub fn events_at(alloc: Global, table: &Table, key: &str) -> Result<Vec<Event>, 
     Ok(events)
 }
 
-/// The name at a key that has to be there.
+/// The name at a key that must not be missing.
 pub fn name_at<'a>(table: &'a Table, key: &str) -> Result<&'a str, PlaceFault>
     ensures name { IfOk result (λ name. IsName name.now) }
     ensures said { IfOk result (λ name. HasText key.now name.now (table_view table.now)) }

@@ -9,7 +9,7 @@ use crate::place::Place;
 use parsing::ReadError;
 use std::alloc::{AllocError, AllocFailed};
 
-/// Why a place of a program file is not read. Which place it is, is added by who knows it.
+/// Why a place of a program file is not read. A caller that knows the place adds it.
 #[derive(Clone, Copy, PartialEq, Eq, Debug)]
 pub enum PlaceFault {
     /// A key is unknown or missing, or its value is none that the key can have.

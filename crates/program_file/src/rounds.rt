@@ -11,8 +11,8 @@ use kinds::Event;
 use script::Rounds;
 use toml::{Table, Value};
 
-/// How often a block runs: once for each row of the query at `each`, or once for each event of the kind at `events`, or once. A block with
-/// both keys, or with another value at one of them, is `Value`.
+/// How often a block runs: once for each row of the query at `each`, once for each event of the kind at `events`, or
+/// once. A block with both keys, or with another value at one of them, is `Value`.
 pub fn rounds_of(block: &Table) -> Result<Rounds, PlaceFault>
     ensures said { IfOk result (SpellsOnly SaysRounds (block_keys (table_view block.now))) }
     ensures refused { IfErr result (λ fault. (fault ≡ PlaceFault.Value)

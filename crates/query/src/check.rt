@@ -15,7 +15,7 @@ use kinds::Kind;
 use std::error::Error;
 use std::fmt;
 
-/// What is wrong with a query. Printed as its number.
+/// A fault of a query. Printed as its number.
 #[derive(Clone, Copy, PartialEq, Eq, Debug)]
 pub enum BadQuery {
     /// 1: one term requires a kind that another excludes.
@@ -58,7 +58,7 @@ impl fmt::Display for BadQuery {
 impl Error for BadQuery {}
 
 impl Query {
-    /// Whether nothing is wrong with the query, and else the least fault that holds.
+    /// Whether the query is without fault, or the least fault that holds.
     pub fn check(&self) -> Result<(), BadQuery>
         ensures { MatchResult result (λ _. query_fault self.now ≡ None) (λ fault. query_fault
             self.now

@@ -20,9 +20,9 @@ use parsing::words::{is_blank, words_of};
 use std::alloc::Global;
 
 impl Term {
-    /// Reads a term: `entity`; or one of `read`, `mut`, `opt`, `with`, `without`, `added` and `changed` and the name of a kind; or `or` and
-    /// two to four alternatives, each `with` or `without` and the name of a kind. One or more spaces stand between the words and any
-    /// number at either end.
+    /// Reads a term. It is `entity`, or one of `read`, `mut`, `opt`, `with`, `without`, `added` and `changed` and the
+    /// name of a kind. Or it is `or` and two to four alternatives, each `with` or `without` and the name of a kind.
+    /// One or more spaces come between the words and any number at either end.
     pub fn read(alloc: Global, text: &str) -> Result<Term, ReadError>
         ensures { ReadsUnlessMemory IsTerm text.now result }
     {

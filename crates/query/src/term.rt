@@ -37,7 +37,7 @@ pub enum Term {
     Or(Alternatives),
 }
 
-/// What a term asks of the kinds that an entity has.
+/// The demand of a term on the kinds that an entity has.
 #[derive(Clone, Copy)]
 pub enum Presence {
     /// Nothing.
@@ -119,7 +119,7 @@ impl Term {
         }
     }
 
-    /// What the term asks of the kinds that an entity has.
+    /// The demand of the term on the kinds that an entity has.
     pub fn presence(self) -> Presence
         ensures { (kinds : ℕ → Bool) → admits kinds (term_of self) ≡ is_present kinds result }
     {

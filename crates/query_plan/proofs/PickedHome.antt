@@ -4,7 +4,7 @@ use Rattle.std.specs.List.{AllByRecursion}
 use Rattle.std.proofs.lemmas.Bool.{and_parts, or_cases, or_left, or_right, eqb-true, eq-eqb}
 use Rattle.model.specs.Lists.{has, is_number}
 use Rattle.model.proofs.lists.Each.{each-append}
-use Rattle.archetype_store.proofs.KindsHome.{prove_kinds_home}
+use Rattle.archetype_store.proofs.ColumnsAtHome.{prove_kinds_home}
 use Rattle.model.specs.access.Query.{Term, matches, admits, touches, touched, writes}
 use Rattle.model.specs.access.Query.Term.{Entity, Read, Mut, Opt, With, Without, Added, Changed, AnyOf}
 use Rattle.archetype_store.specs.Layout.{Archetype, archetype_at, column_home}

@@ -49,7 +49,7 @@ impl Model for Rows {
 }
 
 impl Rows {
-    /// The rows that stand at these places in a world.
+    /// The rows at these places in a world.
     pub fn of(alloc: Global, places: MatchedRows, world: &mut World) -> Result<Self, AllocError>
         requires { IsCounted world.old.layout places }
         ensures rows { IfOk result (λ rows. rows ≡ rows_of_places world.old.layout places) }

@@ -13,7 +13,7 @@ use archetype_store::World;
 use entity_table::Entity;
 use std::alloc::{AllocError, Global};
 
-/// Where the rows of a query stand in a world.
+/// The places of the rows of a query in a world.
 #[derive(Drop)]
 pub enum MatchedRows {
     /// The rows are the entities of the archetype of a number, all of them, in order. With their count.

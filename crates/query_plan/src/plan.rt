@@ -19,11 +19,13 @@ use archetype_store::World;
 use query::Query;
 use std::alloc::{AllocError, Global};
 
-/// The plan of a query for an observer with this last run: its rows, in rising index, each with the place where its components are,
-/// and the columns that it picks. Archetypes that the query doesn't match are passed over, and no column is read but those whose stamps its
-/// filters ask for. Where one archetype alone is matched, its rows stand in rising ids and no filter asks for stamps, the rows are given by its
-/// number, and nothing grows with their count; listed rows come in buffers of this room, and the picks in a list of it. Over several archetypes
-/// they are found by a walk over the indices, where that is likely sooner than to merge those of each. The columns that it picks are at home.
+/// The plan of a query for an observer with this last run. It has the rows, in rising index, each with the place of
+/// its components, and the columns that the query picks. Archetypes that the query doesn't match are skipped, and no
+/// column is read but those whose stamps its filters ask for. Suppose that one archetype alone is matched, its rows
+/// are in rising ids and no filter asks for stamps. Then the rows are given by its number, and nothing grows with
+/// their count. Listed rows come in buffers of this room, and the picks in a list of it. Over several archetypes they
+/// are found by a walk over the indices, where that is likely sooner than to merge those of each. The columns that it
+/// picks are at home.
 pub fn plan(
     alloc: Global,
     query: &Query,
@@ -52,8 +54,8 @@ pub fn plan(
     planned
 }
 
-/// The same plan, by the number of the shape of the query: where a world keeps the shape, the archetypes that fit it are all that is looked
-/// at.
+/// The same plan, by the number of the shape of the query. Where a world keeps the shape, only the archetypes that
+/// fit it are looked at.
 pub fn plan_by(
     alloc: Global,
     world: &World,

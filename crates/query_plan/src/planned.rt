@@ -3,10 +3,10 @@
 use crate::matched_rows::MatchedRows;
 use crate::picks::Pick;
 
-/// What a query asks of a world: its rows, and the columns that they are in.
+/// The plan of a query on a world: its rows, and the columns that they are in.
 #[derive(Drop)]
 pub struct Plan {
-    /// Where the rows stand, in rising index.
+    /// The places of the rows, in rising index.
     pub rows: MatchedRows,
     /// The columns, of archetypes that have entities alone.
     pub picks: Vec<Pick>,

@@ -7,8 +7,8 @@ use crate::row::Row;
 use crate::spares::Spares;
 use std::alloc::Global;
 
-/// Lists of plans that nobody reads any more. Who plans a query takes its lists from here and gives them back, so that a start takes no memory for
-/// its rows once one like it was planned. What is taken has no elements.
+/// Lists of plans that nobody reads any more. A plan of a query takes its lists from here and gives them back. So a
+/// start takes no memory for its rows once one like it was planned. A list that is taken has no elements.
 #[derive(Drop)]
 pub struct RowBuffers {
     /// Buffers of rows.

@@ -16,8 +16,9 @@ pub struct Load {
     pub anyway: bool,
 }
 
-/// Reads `load`, how many lines follow, and `anyway`, if it is there: one or more spaces between, and any number at either end. None for any other
-/// line. It takes no memory, so that the lines that follow are never taken for requests.
+/// Reads `load`, how many lines follow, and `anyway`, if the line has it: one or more spaces between, and any number
+/// at either end. None for any other line. It takes no memory, so that the lines that follow are never taken for
+/// requests.
 pub fn read_load(line: &str) -> Option<Load>
     ensures { Reads IsLoad line.now result }
 {

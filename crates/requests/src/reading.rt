@@ -18,8 +18,8 @@ use std::alloc::Global;
 use tokens::first_word::first_word;
 use tokens::long_number::read_long_number;
 
-/// Reads a request: the word of a command, and what it needs behind it. One or more spaces stand between words and any number at either
-/// end.
+/// Reads a request: the word of a command, and what it needs behind it. One or more spaces come between words and any
+/// number at either end.
 pub fn read_request<'a>(alloc: Global, line: &'a str) -> Result<Request<'a>, RequestFault>
     ensures ok { IfOk result (λ request. SpellsOnly IsRequest line.now (asked_of request)) }
     ensures err { IfErr result (IsRequestFault line.now) }

@@ -18,7 +18,7 @@ use thiserror::Error;
 pub enum Request<'a> {
     /// Who answers, and what of.
     Hello,
-    /// So many runs: 0 to 4,096.
+    /// The number of runs: 0 to 4,096.
     Run(u32),
     /// That an input is put in.
     Put(Input),

@@ -477,14 +477,16 @@ fn levelled(alloc: Global, systems: Vec<System>, levels: &[u32]) -> Result<Vec<S
     Ok(built)
 }
 
-/// The schedule of declared sets, systems and chains: an edge from each member of the first item of a declared order to each member of
-/// the second, the level of each system and as many sync points as there are levels, the conditions, those of sets before those of
-/// systems, each of which covers the members of its item, the pairs of systems that may be ambiguous, and the schedule order. Nothing is
-/// built where something is at fault; the first fault is reported: a name that no item has, or no set to be in; an item with an earlier item's
-/// name; a set in itself; sets in a circle; an item ordered with itself; an order between an item and a set that holds it; two ordered
-/// sets that share a system; a cycle of items; a system of which two parameters conflict; a query at fault, those of systems before those
-/// of conditions; a condition that writes; more than 256 systems; more than 64 sets; more than 512 conditions; a system with more than 8
-/// queries; one that is given more than 1,024 ids.
+/// The schedule of declared sets, systems and chains. It has an edge from each member of the first item of a declared
+/// order to each member of the second. It has the level of each system, and as many sync points as there are levels.
+/// It has the conditions, those of sets before those of systems, each of which covers the members of its item. It has
+/// the pairs of systems that may be ambiguous, and the schedule order. Nothing is built where something is at fault,
+/// and the first fault is reported. First come a name that no item has, or no set to be in, and an item with an
+/// earlier item's name. Then come a set in itself, sets in a circle, and an item ordered with itself. Then come an
+/// order between an item and a set that holds it, two ordered sets that share a system, and a cycle of items. Then
+/// come a system of which two parameters conflict, a query at fault, those of systems before those of conditions, and
+/// a condition that writes. Last come the limits: more than 256 systems, 64 sets or 512 conditions, or a system with
+/// more than 8 queries or 1,024 ids.
 pub fn build(alloc: Global, desc: ScheduleDesc) -> Result<Built, BuildFault>
     ensures buildable { OnOk result (IsBuildable desc) }
     ensures systems { IfOk result (HasDeclaredSystems desc) }

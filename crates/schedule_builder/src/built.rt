@@ -144,8 +144,8 @@ impl Built {
         let _ = &self.syncs;
     }
 
-    /// No two parameters of one system conflict: neither two of its queries, nor two that name a resource or an event kind that
-    /// one of them writes.
+    /// No two parameters of one system conflict. Two of its queries don't, nor two that name a resource or an event
+    /// kind that one of them writes.
     pub fn prove_apart(&self)
         ensures { (n : ℕ) → n < length self.now.systems → ConflictWithin (params_of self.now n)
             → ⊥ }

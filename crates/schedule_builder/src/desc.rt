@@ -8,9 +8,9 @@ use run_condition::Cond;
 use std::alloc::{AllocError, Global};
 use std::marker::Model;
 
-/// A declared item, which is a set, or what a system has besides its parameters: its name, the names of the sets that it is in, those
-/// of the items that it runs before and after, and of those with which it may be ambiguous, and the conditions on which it runs.
-/// Contracts see names by their bytes.
+/// A declared item: a set, or a system without its parameters. It has a name, the names of the sets that it is in,
+/// and those of the items that it runs before and after. It has the names of those with which it may be ambiguous,
+/// and the conditions on which it runs. Contracts see names by their bytes.
 pub struct ItemDesc {
     name: String,
     inside: Vec<String>,
@@ -330,7 +330,7 @@ impl SystemDesc {
         self.item.add_condition(condition)
     }
 
-    /// What it has besides its parameters.
+    /// Its item: all but its parameters.
     pub fn item(&self) -> &ItemDesc
         ensures { result.now ≡ self.now.item }
     {

@@ -37,15 +37,15 @@ pub enum BuildFault {
     DependencyCycle(Vec<String>),
     /// B9: the first system of which two parameters conflict.
     SelfConflict(String),
-    /// B10: the first query at fault: its system, its number, and the least fault that holds (1: a kind is required and
-    /// excluded; 2: a kind is fetched twice; 3: an `opt` term has an excluded kind).
+    /// B10: the first query at fault: its system, its number, and the least fault that holds. 1: a kind is required
+    /// and excluded. 2: a kind is fetched twice. 3: an `opt` term has an excluded kind.
     BadQuery {
         owner: String,
         query: usize,
         case: u32,
     },
-    /// B10: the first condition with a query at fault: its number, the number of its first such query, from the left, and the least
-    /// fault of that.
+    /// B10: the first condition with a query at fault. It has the condition's number, the number of its first such
+    /// query, from the left, and the least fault of that.
     BadConditionQuery {
         condition: usize,
         query: usize,
@@ -53,8 +53,8 @@ pub enum BuildFault {
     },
     /// B11: the number of the first condition of which a query writes.
     ConditionWrites(usize),
-    /// B12: the number of the least limit that is passed (1: at most 256 systems, 2: at most 64 sets, 3: at most 512 conditions, 4: at
-    /// most 8 queries in a system, 5: at most 1,024 ids at a start).
+    /// B12: the number of the least limit that is exceeded. 1: at most 256 systems. 2: at most 64 sets. 3: at most
+    /// 512 conditions. 4: at most 8 queries in a system. 5: at most 1,024 ids at a start.
     OverLimit(u32),
     /// An allocation failed.
     Memory,

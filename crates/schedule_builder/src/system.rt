@@ -81,7 +81,7 @@ impl System {
         self.predecessors.as_slice()
     }
 
-    /// Its level: how many sync points stand before it.
+    /// Its level: how many sync points come before it.
     pub fn level(&self) -> u32
         ensures { result ≡ self.now.level }
     {

@@ -24,9 +24,9 @@ pub struct Drawn {
     pub shapes: Vec<Shape>,
 }
 
-/// The drawing of a schedule whose sets have these members, and in which these pairs race: sync points, frames of sets, edges, systems,
-/// conditions and races, each once. Where there are more than 60 systems it is folded: those of one level that one set holds stand in one box, and
-/// sets have no frames.
+/// The drawing of a schedule whose sets have these members, and in which these pairs race. It has sync points, frames
+/// of sets, edges, systems, conditions and races, each once. Where there are more than 60 systems it is folded. Those
+/// of one level that one set holds share one box, and sets have no frames.
 pub fn draw_schedule(
     alloc: Global,
     built: &Built,

@@ -8,22 +8,23 @@ use std::alloc::AllocError;
 use std::fmt;
 use thiserror::Error;
 
-/// What is wrong with a block or an instruction. Printed as the program reports it.
+/// A fault of a block or an instruction. Printed as the program reports it.
 #[derive(Clone, Copy, PartialEq, Eq, Debug)]
 pub enum Cause {
-    /// X1: the block names no query of the system, a kind is not fetched by the query, the target has no `mut` term, or the query shows no entity.
+    /// X1: the block names no query of the system, or a kind is not fetched by the query. Or the target has no `mut`
+    /// term, or the query shows no entity.
     NotFetched,
-    /// X2: the system does not name a resource that is read, or does not write one that is a target; it doesn't read the events of the block, or
-    /// write those that are emitted; or there is no event at hand.
+    /// X2: the system does not name a resource that is read, or does not write one that is a target. Or it doesn't
+    /// read the events of the block, or write those that are emitted. Or there is no event at hand.
     NotDeclared,
     /// X3: the kind has no such field, or another number of them.
     NoField,
-    /// X4: more instructions are passed over than come after in the block.
+    /// X4: more instructions are skipped than come after in the block.
     PastEnd,
     /// X5: there is no such register.
     NoRegister,
-    /// X6: a command is issued and the system has no Commands, or is granted no id for the slot; or a slot is spawned by code that may run more than
-    /// once, or was spawned by an earlier instruction of the system.
+    /// X6: a command is issued and the system has no Commands, or is granted no id for the slot. Or a slot is spawned
+    /// by code that may run more than once, or was spawned by an earlier instruction of the system.
     NotGranted,
 }
 
@@ -66,7 +67,7 @@ impl fmt::Display for Cause {
 #[derive(Clone, Copy, PartialEq, Eq, Debug, Error)]
 #[error("block {block}, instruction {instruction}")]
 pub struct ScriptFault {
-    /// What is wrong.
+    /// The fault.
     pub cause: Cause,
     /// The number of the block, from 0.
     pub block: usize,

@@ -79,14 +79,14 @@ pub enum Instruction {
         target: Target,
         source: Source,
     },
-    /// Where the relation holds between two values, a number of the next instructions is passed over.
+    /// Where the relation holds between two values, a number of the next instructions is skipped.
     Compare {
         relation: Relation,
         left: Source,
         right: Source,
         passed: u32,
     },
-    /// Where the row at hand has the kind, a number of the next instructions is passed over.
+    /// Where the row at hand has the kind, a number of the next instructions is skipped.
     Has {
         kind: Kind,
         passed: u32,

@@ -15,9 +15,10 @@ pub mod operands;
 pub mod row_plan;
 pub mod script_body;
 
-/// What a script without fault answers keeps within the parameters of its system: it writes components at `mut` terms alone, of their kinds'
-/// widths, resources that the system writes, and the system's registers; it issues commands only with Commands, inserts components of their
-/// kinds' widths, and spawns granted ids alone, none twice, on all that a system with these parameters can be shown.
+/// The answer of a script without fault keeps within the parameters of its system, on all that a system with these
+/// parameters can be shown. It writes components at `mut` terms alone, of their kinds' widths, resources that the
+/// system writes, and the system's registers. It issues commands only with Commands. It inserts components of their
+/// kinds' widths, and spawns granted ids alone, none twice.
 pub fn scripts_keep_within()
     ensures within { ScriptsKeepWithin }
     ensures shown { ScriptsKeepWithinShown }

@@ -11,8 +11,8 @@ use Rattle.model.specs.shown.Outcome.{BodyMeaning}
 use Rattle.kinds.specs.Components.{widths}
 use Rattle.body.specs.Steps.{HasShape}
 use Rattle.engine.specs.Meanings.{AllKeepWithin, HasMemories, LacksMemories}
-use Rattle.engine.proofs.Agreeing.{state_of_schedule}
-use Rattle.engine.proofs.Keeping.{bodies_keep}
+use Rattle.engine.proofs.RunAgreement.{state_of_schedule}
+use Rattle.engine.proofs.BodiesWithin.{bodies_keep}
 use Rattle.session.specs.Live.{Live, meant_in, state_in}
 use Rattle.session.specs.Lockstep.{IsReady}
 

@@ -136,7 +136,8 @@ impl<B: Body> Session<B> {
 
     // The same on the thread of the caller.
     fn run_here(&mut self, alloc: Global, times: u32) -> Answered
-        ensures reply { IsAnswer B.meaning false 1 self.old (asked.Run times) result.reply self.new }
+        ensures reply { IsAnswer B.meaning false 1 self.old (asked.Run times) result.reply
+            self.new }
         ensures runs { AreRunsOf B.meaning 1 self.old (asked.Run times) result.reply
             result.runs.items self.new }
         ensures text { HaveText result.runs.items }
@@ -157,7 +158,8 @@ impl<B: Body> Session<B> {
     // Puts an input in.
     fn put(&mut self, alloc: Global, input: &Input) -> Reply
         requires { self.old.engine.spoiled ≡ false }
-        ensures { IsAnswer B.meaning false 1 self.old (asked.Put (input_of input.now)) result self.new }
+        ensures { IsAnswer B.meaning false 1 self.old (asked.Put (input_of input.now)) result
+            self.new }
     {
         let changed = self.would_change(input);
         match self.engine.input(alloc, input) {

@@ -112,10 +112,11 @@ struct Room<B: Body> {
     entry: Vec<u8>,
 }
 
-/// Plays a session: reads requests, a line each and behind a `load` as many as it says, and writes the reply to each, whole and in one call where
-/// the writer takes it, before it reads the next one. It ends behind `quit`, or where the input ends; a last line without its end is not done, nor
-/// is a `load` behind which lines are wanting. Where a record is kept, each request that changed something is recorded before its reply is
-/// written, with the traces of its runs and its reply, and so is each digest. Workers stand from the first run until the session ends.
+/// Plays a session. It reads requests, a line each and behind a `load` as many as it says. It writes the reply to
+/// each, whole and in one call where the writer takes it, before it reads the next one. It ends behind `quit`, or
+/// where the input ends. A last line without its end is not done, nor is a `load` behind which lines are wanting.
+/// Where a record is kept, each request that changed something is recorded before its reply is written, with the
+/// traces of its runs and its reply, and so is each digest. Workers live from the first run until the session ends.
 pub fn play<'s, B: Body + 's, M: Mode<'s>, R: BufRead, O: Write, J: Write>(
     alloc: Global,
     session: &mut Session<B>,

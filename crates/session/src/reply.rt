@@ -72,7 +72,7 @@ pub enum Shown {
     Nothing,
     /// The id of a new entity.
     Id(Entity),
-    /// `done` where an entity was changed, `passed` where it didn't live and the input was passed over.
+    /// `done` where an entity was changed, `passed` where it didn't live and the input was skipped.
     Changed(bool),
     /// These lines, each with its end.
     Lines(String),
@@ -108,7 +108,7 @@ impl Shown {
     }
 }
 
-/// What is replied to a request: one line, and behind it the lines that the request shows. Printed as they are sent.
+/// The reply to a request: one line, and behind it the lines that the request shows. Printed as they are sent.
 #[derive(Drop)]
 pub enum Reply {
     /// The request is done.

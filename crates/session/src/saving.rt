@@ -31,9 +31,9 @@ impl<B: Body> Session<B> {
         }
     }
 
-    /// Sets the state whose text was saved, also where the present one is lost. `OtherFile` unless it is one of the same program file, or any will
-    /// do; `Outside` and `NoState` where the bytes are the text of no state, and name the first line that is not of one; `OtherMemories` where the
-    /// state hasn't those of the schedule.
+    /// Sets the state whose text was saved, also where the present one is lost. `OtherFile` unless it is one of the
+    /// same program file, or any will do. `Outside` and `NoState` where the bytes are the text of no state; they name
+    /// the first line that is not of one. `OtherMemories` where the state lacks those of the schedule.
     pub fn load(&mut self, alloc: Global, load: Load, text: &[u8]) -> Reply
         ensures { IsLoadAnswer self.old load text.now result self.new }
     {

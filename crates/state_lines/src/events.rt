@@ -11,7 +11,8 @@ use event_buffers::Events;
 use kinds::Event;
 use std::alloc::{AllocError, Global};
 
-/// The lines of the kept events of a kind: the number of the next one, and then each from number `from` on, with its number and its value.
+/// The lines of the kept events of a kind. First comes the number of the next one, and then each from number `from`
+/// on, with its number and its value.
 pub fn lines_of_events(
     alloc: Global,
     events: &Events,

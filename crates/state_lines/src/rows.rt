@@ -35,8 +35,8 @@ pub fn line_of_entity(alloc: Global, world: &World, entity: Entity) -> Result<St
     Ok(text)
 }
 
-/// The lines of the rows of a query, in rising index, for an observer who last looked at tick `since`: of each the id, and each component
-/// that the query fetches.
+/// The lines of the rows of a query, in rising index, for an observer who last looked at tick `since`. Each has the
+/// id, and each component that the query fetches.
 pub fn lines_of_query(
     alloc: Global,
     world: &World,

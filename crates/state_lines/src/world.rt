@@ -12,8 +12,8 @@ use column_store::{Components, StampedValue};
 use kinds::{Res, Value};
 use std::alloc::{AllocError, Global};
 
-/// The text of a world after `runs` runs, in which `passed_over` commands were passed over: the number of runs, each resource, each
-/// living entity in rising index, the count of commands passed over, a line for each.
+/// The text of a world after `runs` runs, in which `passed_over` commands were skipped. It has the number of runs,
+/// each resource, each living entity in rising index, and the count of skipped commands, a line for each.
 pub fn text_of_world(
     alloc: Global,
     runs: u32,
@@ -29,8 +29,8 @@ pub fn text_of_world(
     Ok(text)
 }
 
-/// Adds the lines of a world in which `passed_over` commands were passed over: each resource, each living entity in rising index, the count of
-/// commands passed over.
+/// Adds the lines of a world in which `passed_over` commands were skipped. They are each resource, each living entity
+/// in rising index, and the count of skipped commands.
 pub fn push_world(
     alloc: Global,
     text: &mut String,

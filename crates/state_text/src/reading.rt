@@ -32,8 +32,9 @@ use change_ticks::Clock;
 pub use fault::StateFault;
 use std::alloc::Global;
 
-/// The state of which this is the text. `Outside` names the first line that is spelled otherwise, `NoState` one that says what no state has. What is
-/// read is written again and compared, so no other text is taken for one of a state.
+/// The state of which this is the text. `Outside` names the first line that is spelled otherwise, `NoState` one that
+/// says what no state has. A state that is read is written again and compared, so no other text is taken for one of a
+/// state.
 pub fn read_state(alloc: Global, text: &str) -> Result<State, StateFault>
     ensures found { IfOk result (λ state. text.now ≡ state_text state) }
     ensures only { IfOk result (λ state. (w : ModelState) → HasShape w → Fits w

@@ -13,8 +13,8 @@ use body::State;
 use kinds::{Event, Res};
 use std::alloc::{AllocError, Global};
 
-/// The text of a whole state, a line for each: its head, the clock, the count of commands passed over, the resources, the kept events, what
-/// systems and conditions remember, the slots.
+/// The text of a whole state, a line for each. It has a head, the clock, the count of skipped commands, the
+/// resources, the kept events, the memories of systems and conditions, and the slots.
 pub fn text_of_state(alloc: Global, state: &State) -> Result<String, AllocError>
     ensures { IfOk result (λ text. string_bytes text ≡ state_text state.now) }
 {

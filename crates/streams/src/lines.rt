@@ -8,7 +8,7 @@ use crate::reading::ReadFault;
 use memchr::memchr;
 use std::io::{BufRead, ErrorKind};
 
-/// What a reader has next.
+/// The next line of a reader.
 #[derive(Clone, Copy, PartialEq, Eq, Debug)]
 pub enum Line {
     /// A line within the limit.
@@ -21,7 +21,7 @@ pub enum Line {
 
 /// The next line of a reader, with at most `limit` bytes, in `line` without its end, the byte 10.
 ///
-/// A line that is too long is passed over to its end. Bytes behind the last end of a line are no line, and are passed over too. A line is
+/// A line that is too long is skipped to its end. Bytes behind the last end of a line are no line, and are skipped too. A line is
 /// given as soon as the reader shows its end. With room for one byte more than the limit, `line` takes no memory. A reader that fails is
 /// `Failed`; a read that was interrupted is taken up again. An error loses at most a part of the line, without its end.
 pub fn next_line<R: BufRead>(

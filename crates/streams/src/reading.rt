@@ -22,7 +22,8 @@ pub enum ReadFault {
 
 /// All bytes of a reader, at most `limit`.
 ///
-/// A reader that fails is `Failed`; a read that was interrupted is taken up again. After an error the reader may stand anywhere.
+/// A reader that fails is `Failed`; a read that was interrupted is taken up again. After an error the reader may be
+/// anywhere.
 pub fn read_whole<R: Read>(
     alloc: Global,
     reader: &mut R,

@@ -37,7 +37,11 @@ impl Model for SetHierarchy {
 
     ghost Value = { Hierarchy };
 
-    ghost view = { λ h. record { sets = h.sets; items = h.items; inside = pairs_of h.inside.items } };
+    ghost view = { λ h. record {
+      sets = h.sets;
+      items = h.items;
+      inside = pairs_of h.inside.items;
+    } };
 
     ghost invariant = { λ h. ArePlaced h.sets h.items h.inside.items };
 }
@@ -70,8 +74,8 @@ impl SetHierarchy {
         Ok(())
     }
 
-    /// Refuses a set that is in itself, else sets that hold one another in a circle. Where neither is there, sets have ranks that rise
-    /// inwards.
+    /// Refuses a set that is in itself, or sets that hold one another in a circle. Without either, sets have ranks
+    /// that rise inwards.
     pub fn check(&self, alloc: Global) -> Result<(), HierarchyFault>
         ensures no_self { OnOk result (HasNoSelf self.now) }
         ensures no_cycle { OnOk result (HasNoSetCycle self.now) }
@@ -142,8 +146,9 @@ impl SetHierarchy {
         edges_of(alloc, self.sets, self.items, self.inside.as_slice(), orders)
     }
 
-    /// For each of these items its members by their numbers among the systems, in rising order. A system is its own only member. What
-    /// reaches each set is found once, and then each system is looked at for each of these items.
+    /// For each of these items its members by their numbers among the systems, in rising order. A system is its own
+    /// only member. The items that reach each set are found once, and then each system is looked at for each of these
+    /// items.
     pub fn coverage(&self, alloc: Global, items: &[usize]) -> Result<Vec<Members>, AllocError>
         requires { self.now.items < 2 ^ 32 }
         ensures { IfOk result (λ lists. AreCovered self.now items.now lists.items) }

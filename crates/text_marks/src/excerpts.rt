@@ -14,11 +14,11 @@ const SHOWN_BEFORE: usize = 40;
 /// A mark, with what is said of it.
 #[derive(Debug, Drop)]
 pub struct Labelled<'a> {
-    /// What is marked.
+    /// The mark.
     pub mark: Mark<'a>,
     /// Whether the excerpt is of this mark: it has `^` below it, and others have `-`.
     pub is_first: bool,
-    /// What stands behind it, empty for nothing.
+    /// The text behind it, empty for none.
     pub label: String,
 }
 

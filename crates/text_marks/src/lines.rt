@@ -8,13 +8,13 @@ ghost use Rattle.text_marks.specs.Lines.{BeginsLine, EndsLine, IsLine, breaks_be
 pub struct Line<'a> {
     /// Its number, from 1.
     pub number: usize,
-    /// How many bytes stand before it.
+    /// How many bytes come before it.
     pub start: usize,
     /// Its bytes, without the line feed that ends it.
     pub bytes: &'a [u8],
 }
 
-/// The line of a place of a text, which is at most the text's end. A line feed stands on the line that it ends.
+/// The line of a place of a text, which is at most the text's end. A line feed is on the line that it ends.
 pub fn line_at(text: &[u8], place: usize) -> Line<'_>
     requires { place ≤ length text.now }
     ensures line { IsLine text.now result }

@@ -14,14 +14,14 @@ pub struct Span {
     pub end: usize,
 }
 
-/// What is marked of a line of a text.
+/// The marked part of a line of a text.
 #[derive(Clone, Copy, Debug)]
 pub struct Mark<'a> {
     /// The line.
     pub line: Line<'a>,
-    /// How many of its bytes stand before the mark.
+    /// How many of its bytes come before the mark.
     pub from: usize,
-    /// How many stand before the mark's end.
+    /// How many come before the mark's end.
     pub to: usize,
 }
 

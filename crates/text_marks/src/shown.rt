@@ -5,8 +5,8 @@ use std::alloc::{AllocError, Global};
 // What stands for a byte or a character that isn't shown.
 const REPLACEMENT: char = '\u{FFFD}';
 
-/// A text as it is shown: a tab is four spaces, a last carriage return is left away, and another control character, one that turns the direction of
-/// writing, or a byte outside of UTF-8 is U+FFFD.
+/// A text as it is shown. A tab is four spaces, and a last carriage return is left away. Another control character,
+/// one that turns the direction of writing, or a byte outside of UTF-8 is U+FFFD.
 pub fn shown(alloc: Global, bytes: &[u8]) -> Result<String, AllocError> {
     let mut text = String::new(alloc);
     let kept = without_return(bytes);

@@ -11,8 +11,8 @@ use Rattle.model.proofs.agreement.OneWithAll.{replayed_run_agrees}
 use Rattle.kinds.specs.Components.{widths}
 use Rattle.body.specs.Steps.{HasShape}
 use Rattle.engine.specs.Meanings.{meanings, AllKeepWithin, HasMemories}
-use Rattle.engine.proofs.Agreeing.{state_of_schedule}
-use Rattle.engine.proofs.Keeping.{bodies_keep}
+use Rattle.engine.proofs.RunAgreement.{state_of_schedule}
+use Rattle.engine.proofs.BodiesWithin.{bodies_keep}
 
 pub replay_agrees : {B : Type 0} (meaning : B → Params → BodyMeaning) (s : Schedule) (bodies : List B) (w : State) (r : Recorded) (deferred : State) → IsBuilt s → HasMemories s w → HasShape w →
     AllKeepWithin s (meanings meaning s (map Some bodies)) → IsReplayed (recording s r.sets) (meanings meaning s (map Some bodies)) w r.steps deferred → AgreesWithAll widths s (meanings meaning s (map Some bodies)) w 1 deferred

@@ -19,7 +19,7 @@ use Rattle.engine.specs.declared.faults.RunFault.TheVariants.{Memory, ClockSpent
 use Rattle.engine.specs.Stops.{CannotOpen, StopsBy, fault_of}
 use Rattle.engine.specs.declared.stop.Stop.{Stop}
 use Rattle.engine.specs.declared.stop.Stop.TheVariants as stop
-use Rattle.engine.proofs.Fresh.{serial_fresh}
+use Rattle.engine.proofs.BeforeStart.{serial_fresh}
 use Rattle.trace_checker.specs.declared.replay.ReplayFault.{ReplayFault}
 use Rattle.trace_checker.specs.declared.replay.ReplayFault.TheVariants as replay
 use Rattle.model.specs.runs.Replays.{IsReplayed, IsWrongAnswer, IsReplayStopped}

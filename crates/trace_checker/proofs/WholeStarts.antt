@@ -25,12 +25,12 @@ use Rattle.engine.specs.Jobs.{IsPlaced}
 use Rattle.engine.specs.Deferred.{DeferredValue, AreInHand, IsDeferredFor, grants_at, run_with, with_commands}
 use Rattle.engine.specs.Meanings.{meanings_of, meanings, body_at, body_fits, fits_at, AllKeepWithin, HasMemories, Suits}
 use Rattle.engine.specs.Stops.{IsNotLaid, LacksTick}
-use Rattle.engine.proofs.Agreeing.{state_of_schedule}
-use Rattle.engine.proofs.InHand.{AreAlike, alike_after, in_hand_alike, in_hand_put}
-use Rattle.engine.proofs.Keeping.{bodies_keep}
-use Rattle.engine.proofs.Placing.{placed_first}
-use Rattle.engine.proofs.Remembering.{memories_asked, memories_at, memories_laid, memories_noted, memories_synced}
-use Rattle.engine.proofs.Weaving.{over, IsAnswered, numbers_of, ask_woven, finish_woven, start_woven, unsent_woven}
+use Rattle.engine.proofs.RunAgreement.{state_of_schedule}
+use Rattle.engine.proofs.IdsInHand.{AreAlike, alike_after, in_hand_alike, in_hand_put}
+use Rattle.engine.proofs.BodiesWithin.{bodies_keep}
+use Rattle.engine.proofs.JobsOut.{placed_first}
+use Rattle.engine.proofs.StateMemories.{memories_asked, memories_at, memories_laid, memories_noted, memories_synced}
+use Rattle.engine.proofs.InterleavedSteps.{over, IsAnswered, numbers_of, ask_woven, finish_woven, start_woven, unsent_woven}
 use Rattle.model.specs.runs.Replays.{IsStepTaken}
 use Rattle.trace_checker.specs.ReplayFaults.{HasRun}
 

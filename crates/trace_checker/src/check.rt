@@ -80,8 +80,8 @@ pub fn check_all(alloc: Global, built: &Built, traces: &[Trace]) -> Result<Vec<V
     Ok(verdicts)
 }
 
-/// What a schedule says of a trace: exactly one verdict is that of it. Where the trace records kind sets, two systems meet by those that were
-/// recorded last. Recorded answers and kind sets are not compared with a world.
+/// The verdict of a schedule on a trace: exactly one is that of it. Where the trace records archetypes, two systems
+/// meet by those that were recorded last. Recorded answers and archetypes are not compared with a world.
 pub fn check(alloc: Global, built: &Built, trace: &Trace) -> Result<Verdict, AllocError>
     ensures verdict { IfOk result (λ verdict. IsVerdict built.now trace.now verdict) }
     ensures only { (other : Verdict) → IsVerdict built.now trace.now other

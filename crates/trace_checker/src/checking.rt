@@ -20,8 +20,9 @@ use std::alloc::{AllocError, Global};
 use std::marker::Model;
 use std::snapshot::Snapshot;
 
-/// Judges recorded runs of a schedule, each by itself. One core serves all that record kind sets: it finds anew who meets whom only where a run opens
-/// with other kind sets than those by which it knows it. Contracts see the schedule.
+/// Judges recorded runs of a schedule, each by itself. One core serves all that record archetypes. It finds anew who
+/// meets whom only where a run opens with other archetypes than those by which it knows it. Contracts see the
+/// schedule.
 #[derive(Drop)]
 pub struct Checker {
     built: Snapshot<Built>,

@@ -19,7 +19,7 @@ pub enum Line {
     Begin(u32),
     /// The next step of the run.
     Take(Step),
-    /// The kind sets of the living entities, at the opening of the run or after the sync point before.
+    /// The archetypes of the living entities, at the opening of the run or after the sync point before.
     There(KindSets),
 }
 
@@ -46,7 +46,7 @@ impl fmt::Display for Line {
     }
 }
 
-/// A line of kind sets.
+/// A line of archetypes.
 #[derive(Clone, Copy)]
 pub(crate) struct SetsText<'a>(pub &'a KindSets);
 
@@ -73,7 +73,7 @@ fn write_numbers<W: fmt::Write>(f: &mut fmt::Formatter<W>, numbers: &[u32]) -> f
 }
 
 impl Line {
-    /// Reads a line without its end. Only one that begins as a line of kind sets takes memory.
+    /// Reads a line without its end. Only one that begins as a line of archetypes takes memory.
     pub fn read(alloc: Global, bytes: &[u8]) -> Result<Line, ReadError>
         ensures reads { ReadsUnlessMemory IsLine bytes.now result }
         ensures memory { IsErrOf result ReadError.Memory → get_or bytes.now 0 0 ≡ 65 }

@@ -25,8 +25,9 @@ pub enum TextFault {
     /// This line begins another run than the next one, or is a step before any run.
     #[error("line {0} is out of order")]
     Order(usize),
-    /// Where this line stands, or would stand, kind sets are wanted and it has none, or it has them where none are wanted. They are
-    /// wanted behind the line that begins a run and behind that of a sync point, where the second line of the text begins as one of them.
+    /// At this line archetypes are wanted and it has none or is missing, or it has them where none are wanted. They
+    /// are wanted behind the line that begins a run and behind that of a sync point. This is so only where the second
+    /// line of the text begins as one of them.
     #[error("line {0} is where kind sets are wanted, or tells them where none are")]
     Lists(usize),
     /// An allocation failed: nothing is said of the text.
@@ -56,7 +57,7 @@ impl<T: Drop> From<AllocFailed<T>> for TextFault {
     }
 }
 
-/// What was begun in a text with kind sets, and waits for them.
+/// The part begun in a text with archetypes, which waits for them.
 #[derive(Clone, Copy)]
 pub enum Due {
     /// Nothing.

@@ -46,8 +46,8 @@ pub enum ReplayFault {
     /// This step, counted from 1, is the first whose recorded answer isn't what its condition means there.
     #[error("the recorded answer of step {0} is not what its condition means there")]
     WrongAnswer(usize),
-    /// The kind sets that were recorded after this step, counted from 1, or at the opening for 0, are the first that aren't those of the living
-    /// entities there.
+    /// The first recorded archetypes that aren't those of the living entities there. They were recorded after this
+    /// step, counted from 1, or at the opening for 0.
     #[error("the kind sets recorded after step {0} are not those of the living entities")]
     WrongSets(usize),
     /// What stops a run: a failed allocation, of a tick, of ids or of an event number, or a body that refuses.
@@ -71,12 +71,13 @@ impl From<Stop> for ReplayFault {
     }
 }
 
-/// Takes a recorded run again, on one thread: each step in the order in which it stands, and each system whole at its start; what its body
-/// commands is done at the sync point of its level. The steps are checked first, as `check` does; a condition is asked where it was asked, and
-/// what was recorded is compared with what it answers. Where the trace records kind sets, those at the opening and after each sync point are
-/// compared with those of the living entities. The state that is left is that of the recorded run, stamp for stamp, however many systems
-/// ran at once; where the schedule is settled it agrees with what any one run with true answers leaves of any state that agrees with the one
-/// before. Each fault drops the state. The bodies that have run mean what they meant.
+/// Takes a recorded run again, on one thread: each step in recorded order, and each system whole at its start. The
+/// commands of its body are done at the sync point of its level. The steps are checked first, as `check` does. A
+/// condition is asked where it was asked, and the recorded answer is compared with the true one. Where the trace
+/// records archetypes, those at the opening and after each sync point are compared with those of the living entities.
+/// The state that is left is that of the recorded run, stamp for stamp, however many systems ran at once. Where the
+/// schedule is settled it agrees with what any one run with true answers leaves. That run begins at any state that
+/// agrees with the one before. Each fault drops the state. The bodies that have run mean what they meant.
 pub fn replay<B: Body>(
     alloc: Global,
     built: &Built,
@@ -240,8 +241,8 @@ fn compare_after(
     compare_sets(run, trace, place, number)
 }
 
-/// Takes the step of this number. A system that starts has deferred nothing and was granted what it can be given, and so have those of the level
-/// above a sync point deferred nothing.
+/// Takes the step of this number. A system that starts has deferred nothing and was granted ids that it can be given.
+/// Those of the level above a sync point have deferred nothing either.
 pub fn take<B: Body>(
     built: &Built,
     bodies: &mut [B],

@@ -12,7 +12,7 @@ use std::alloc::Global;
 // Less than this is the number of any set of kinds.
 const SET_LIMIT: u32 = 1_048_576;
 
-/// Reads kind sets: numbers that rise, a space before each.
+/// Reads archetypes: numbers that rise, a space before each.
 pub(crate) fn sets_of(alloc: Global, bytes: &[u8]) -> Result<KindSets, ReadError>
     ensures { ReadsUnlessMemory AreSets bytes.now result }
 {

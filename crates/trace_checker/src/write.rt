@@ -31,7 +31,7 @@ impl From<AllocError> for WriteFault {
     }
 }
 
-/// The text of traces, all of which record kind sets or none, which has at most `limit` bytes. It ends with the first run that passes them.
+/// The text of traces, all of which record archetypes or none, which has at most `limit` bytes. It ends with the first run that passes them.
 pub fn text_of_traces(alloc: Global, traces: &[Trace], limit: usize) -> Result<String, WriteFault>
     requires count { length traces.now < 2 ^ 32 }
     requires alike { AreAlike traces.now }

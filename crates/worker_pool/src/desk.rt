@@ -39,7 +39,11 @@ fn collect_one<J: JoinThreads, T: Task>(
 ) -> Option<(JobNumber, T::Outcome)>
     ensures collected { MatchOption result
         ((gained : List (ℕ × ℕ)) × (lead_view lead.new ≡ having_read (lead_view lead.old) gained))
-        (λ t. (gained : List (ℕ × ℕ)) × (slot : ℕ) × (lead_view lead.new ≡ after_collect (having_read (lead_view lead.old) gained) t.0 t.1 slot) × Uncollected (lead_view lead.old) t.0 × ((j : T.Job) × HasPosted (lead_view lead.old) t.0 j × T.answers j t.1)) }
+        (λ t. (gained : List (ℕ × ℕ)) × (slot : ℕ)
+        × (lead_view lead.new
+        ≡ after_collect (having_read (lead_view lead.old) gained) t.0 t.1 slot)
+        × Uncollected (lead_view lead.old) t.0
+        × ((j : T.Job) × HasPosted (lead_view lead.old) t.0 j × T.answers j t.1)) }
     ensures slots { lead_slots lead.new ≡ lead_slots lead.old }
     ensures joins { IsTrue (J.joins mode.now) → IsSome result }
 {

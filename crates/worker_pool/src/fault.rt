@@ -8,7 +8,7 @@ use body::Body;
 pub enum HandOutFault<B: Body> {
     /// An allocation failed, or no worker has room for it: the job comes back.
     Memory(Start<B>),
-    /// No thread can be started in which a worker would stand: the job comes back.
+    /// No thread can be started for a worker: the job comes back.
     NoWorker(Start<B>),
     /// No thread can be started for this job alone: the job is lost with it.
     Lost,

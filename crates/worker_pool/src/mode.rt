@@ -15,7 +15,7 @@ pub trait Gate: Send + Sync + Drop {
     fn leave(&self, number: u64);
 }
 
-/// Where the threads of a run are started: in a scope, or nowhere.
+/// The scope in which the threads of a run are started, or none.
 pub trait SpawnThreads<'s> {
     /// What the scope's threads may borrow.
     type Environment: 's;
@@ -36,7 +36,7 @@ pub trait JoinThreads {
         ensures kept { IfSome result (λ r. P.kept_by child.promise r) }
         ensures joined { IsTrue (joins self.now) → IsSome result };
 
-    /// Waits until a worker that stood has left, where that can be waited for.
+    /// Waits until a worker has left, where that can be waited for.
     fn see_off(&self, worker: JoinHandle<()>);
 
     /// Waits until a bell has rung after `heard`, or less. False where that can't be waited for.
@@ -82,7 +82,7 @@ pub trait Mode<'s>: SpawnThreads<'s> + JoinThreads + Drop {
         ensures width { result ≡ width self.now }
         ensures some { 0 < result };
 
-    /// How many workers may stand until the end of a call, 0 where each start has a thread of its own, or none.
+    /// How many workers may live until the end of a call, 0 where each start has a thread of its own, or none.
     fn standing(&self) -> usize
         ensures { MatchBool (stands self.now) (0 < result) (result ≡ 0) };
 
@@ -92,7 +92,8 @@ pub trait Mode<'s>: SpawnThreads<'s> + JoinThreads + Drop {
     /// The gate of its workers.
     fn gate(&self) -> &'s Self::Gate;
 
-    /// The same mode, but with workers that stand wherever it has threads: a job that none of them can take comes back.
+    /// The same mode, but with workers that live until the end of a call wherever it has threads. A job that none of
+    /// them can take comes back.
     fn keeping(&self) -> Self
         ensures stands { stands result ≡ Self.has_scope result }
         ensures scope { Self.has_scope result ≡ Self.has_scope self.now }

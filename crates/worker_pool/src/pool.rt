@@ -41,7 +41,7 @@ impl<B: Body> Model for Pool<B> {
 }
 
 impl<B: Body> Pool<B> {
-    /// A pool with no job out, for which no worker stands.
+    /// A pool with no job out and no worker.
     pub fn new(alloc: Global) -> Self
         ensures { result ≡ [] }
     {
@@ -50,7 +50,8 @@ impl<B: Body> Pool<B> {
         }
     }
 
-    /// A pool with no job out, for a call: up to `workers` workers come to stand as jobs want them, until `end` sends them away. With 0 none does.
+    /// A pool with no job out, for a call. Up to `workers` workers are started as jobs want them, and live until
+    /// `end` sends them away. With 0 none does.
     pub fn begin(alloc: Global, workers: usize) -> Result<Self, AllocError>
         ensures { IfOk result (λ p. p ≡ []) }
     {
@@ -72,9 +73,10 @@ impl<B: Body> Pool<B> {
         }
     }
 
-    /// Hands a job out: to a worker that stands, or a thread of its own, where the mode has a scope, else it is kept to be run when it is brought
-    /// back. After an error nothing is handed out, and the job comes back: where an allocation fails, no worker has room for it, or no thread can be
-    /// started in which one would stand. It is lost only where a thread of its own can't be started, so never in a mode in which workers stand.
+    /// Hands a job out: to a worker, or a thread of its own, where the mode has a scope. Otherwise it is kept to be
+    /// run when it is brought back. After an error nothing is handed out, and the job comes back. This is so where an
+    /// allocation fails, no worker has room for it, or no thread can be started for one. It is lost only where a
+    /// thread of its own can't be started. So it never is in a mode whose workers live until the end of a call.
     pub fn hand_out<'s, M: Mode<'s>>(
         &mut self,
         mode: &M,
@@ -135,7 +137,7 @@ impl<B: Body> Pool<B> {
         }
     }
 
-    /// Ends a pool: workers that stand leave, and each is waited for. Tells how many jobs were still out: they are lost.
+    /// Ends a pool: its workers leave, and each is waited for. Tells how many jobs were still out: they are lost.
     pub fn end<'s, M: Mode<'s>>(self, mode: &M) -> usize
     where
         B: 's,

@@ -63,7 +63,7 @@ fn start_worker<'s, E: 's, N: Signals + 's, G: Gate, T: Runs + Send + 's>(
     scope.spawn(move || work(signals, gate, hand)).ok()
 }
 
-/// Workers that stand, and the jobs that are out with them.
+/// Workers that live until the pool ends, and the jobs that are out with them.
 #[derive(Drop)]
 pub struct Standing<B: Body> {
     lead: Lead<StartTask<B>>,

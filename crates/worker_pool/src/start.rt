@@ -9,8 +9,8 @@ use body::{Body, BodyFault, View};
 use std::snapshot::Snapshot;
 use std::thread::Promise;
 
-/// A body that a system starts with: it fits the parameters of the view, which shows what a system with these can be shown, and in which nothing
-/// is written yet.
+/// A body that a system starts with. It fits the parameters of the view. The view shows what a system with these can
+/// be shown, and nothing is written in it yet.
 #[derive(Drop)]
 pub struct Start<B: Body> {
     /// The number of the start in its run, which a gate is called with.
@@ -19,7 +19,7 @@ pub struct Start<B: Body> {
     pub system: u32,
     /// Its body.
     pub body: B,
-    /// What it is shown, in a box: a job is moved often, and a view is large.
+    /// Its view, in a box: a job is moved often, and a view is large.
     pub view: Box<View>,
     ghost fits: { IsTrue (B.fits body view.value.params) },
     ghost showing: { CanBeShown view.value.params view.value.shown },
@@ -35,7 +35,7 @@ pub struct JobResult<B> {
     pub system: u32,
     /// Its body.
     pub body: B,
-    /// What it was shown and what it wrote.
+    /// Its view, with what it wrote.
     pub view: Box<View>,
     /// What it answered.
     pub answer: Result<(), BodyFault>,

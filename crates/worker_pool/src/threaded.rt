@@ -38,8 +38,20 @@ impl<B: Body> Model for PendingJob<B> {
     ghost Value = { JobOut B };
 
     ghost view = { λ o. elim o.work [
-      | Here start ↦ record { number = start.number; system = start.system; body = start.body; view = start.view.value; there = false }
-      | There child ↦ record { number = child.promise.start.value.number; system = child.promise.start.value.system; body = child.promise.start.value.body; view = child.promise.start.value.view.value; there = true }
+      | Here start ↦ record {
+        number = start.number;
+        system = start.system;
+        body = start.body;
+        view = start.view.value;
+        there = false;
+      }
+      | There child ↦ record {
+        number = child.promise.start.value.number;
+        system = child.promise.start.value.system;
+        body = child.promise.start.value.body;
+        view = child.promise.start.value.view.value;
+        there = true;
+      }
     ] };
 }
 

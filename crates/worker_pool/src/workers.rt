@@ -20,8 +20,8 @@ pub struct Workers<'a, 's, E, R, G> {
 }
 
 impl<'a, 's, E: 's, R, G> Workers<'a, 's, E, R, G> {
-    /// `count` systems at once, at least one and at most 64, by as many workers, through the gate. Each is a thread of the scope, which stands from when
-    /// it is first wanted to the end of the pool, and takes one job after the other.
+    /// `count` systems at once, at least one and at most 64, by as many workers, through the gate. Each is a thread
+    /// of the scope, and takes one job after the other. It lives from its first use to the end of the pool.
     pub fn new(count: usize, scope: &'a Scope<'s, E>, runtime: R, gate: &'s G) -> Self
         requires some { 1 ≤ count }
         requires few { count ≤ 64 }

@@ -53,7 +53,7 @@ impl World {
         self.slots.push(generation, status)
     }
 
-    /// Takes the last tick of the clock back, which stands nowhere in the world yet.
+    /// Takes the last tick of the clock back, which no stamp of the world has yet.
     pub fn give_back_tick(&mut self)
         requires { IsWorld widths (at_clock (self.old.state.clock - 1) self.old.state) }
         ensures state { self.new.state ≡ at_clock (self.old.state.clock - 1) self.old.state }

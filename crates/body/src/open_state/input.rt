@@ -26,9 +26,9 @@ use kinds::{Event, Res, Value};
 use std::alloc::{AllocError, Global};
 
 impl OpenState {
-    /// Takes an input at the next tick, which becomes the clock, and gives the id of a new entity. `NoTick` at the last tick, else
-    /// `NoEventNumber` where an event gets no number, `NoIds` where no index is left; `Memory` where an allocation fails. After an error nothing
-    /// has changed.
+    /// Takes an input at the next tick, which becomes the clock, and gives the id of a new entity. `NoTick` at the
+    /// last tick. Otherwise `NoEventNumber` where an event gets no number, and `NoIds` where no index is left.
+    /// `Memory` where an allocation fails. After an error nothing has changed.
     pub fn input(&mut self, alloc: Global, input: &Input) -> Result<Option<Entity>, PutFault>
         requires home { AreAllHome self.old.layout }
         ensures can { OnOk result (can_input (input_of input.now) self.old.state ≡ true) }

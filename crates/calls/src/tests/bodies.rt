@@ -26,7 +26,7 @@ pub enum TestBody {
     Refuse,
     /// It looks whether somebody is past a gate.
     Watch(Arc<TestGate, Global>),
-    /// It waits for others to run beside it, at a gate of its own.
+    /// It waits for others to run with it, at a gate of its own.
     Meet(Arc<TestGate, Global>),
     /// It follows a script.
     Follow(ScriptBody),

@@ -16,7 +16,7 @@ pub const PATIENCE: u64 = 20_000_000;
 pub enum Rule {
     /// None.
     Open,
-    /// Each, until so many are past the gate at once.
+    /// Each, until this number is past the gate at once.
     Gather(u64),
     /// The first of these, until the second has left.
     Hold(u64, u64),

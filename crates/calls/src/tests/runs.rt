@@ -76,7 +76,7 @@ pub struct Ran {
     pub is_recorded: bool,
 }
 
-/// One run on two threads, which stand.
+/// One run on two threads, which outlast a start.
 pub const ONCE: Plan = Plan {
     workers: 2,
     times: 1,

@@ -9,13 +9,13 @@ use executor_core::Step;
 /// Who runs in a trial.
 #[derive(Clone, Copy)]
 pub enum Cast {
-    /// So many systems that touch nothing. The gate of the workers holds them.
+    /// A number of systems that touch nothing. The gate of the workers holds them.
     Idle(u32),
-    /// So many that touch nothing, whose bodies wait for each other at the gate.
+    /// A number of them that touch nothing, whose bodies wait for each other at the gate.
     Meeting(u32),
     /// Two whose bodies wait for each other at the gate, with these queries, over an entity that is frozen and one that is hidden.
     Querying(&'static str, &'static str),
-    /// So many whose bodies look at the gate of the workers.
+    /// A number of them whose bodies look at the gate of the workers.
     Watching(u32),
     /// Two of one level that give the one entity a score. The gate of the workers holds them.
     Scoring,
@@ -23,14 +23,14 @@ pub enum Cast {
     Spawning,
 }
 
-/// What is wanted of a trial that has run.
+/// The demand on a trial that has run.
 #[derive(Clone, Copy)]
 pub enum Wanted {
-    /// So many were past the gate at once, at most.
+    /// At most this number was past the gate at once.
     Met(u64),
     /// The gate was entered before each of five bodies and left behind it, once for each start, with the numbers from 1 on.
     FivePassed,
-    /// So many runs left a trace.
+    /// The number of runs that left a trace.
     Traces(usize),
     /// The run recorded steps that its gate lets it record, and no start was held in vain.
     Recorded,
@@ -42,7 +42,7 @@ pub enum Wanted {
 
 /// A trial.
 pub struct Trial {
-    /// What it is called.
+    /// Its name.
     pub name: &'static str,
     /// Who runs.
     pub cast: Cast,
@@ -52,7 +52,7 @@ pub struct Trial {
     pub patience: u64,
     /// How it is run.
     pub plan: Plan,
-    /// What is wanted of it.
+    /// The demand on it.
     pub wanted: Wanted,
 }
 

@@ -23,10 +23,11 @@ struct SpareParts {
 }
 
 impl<B: Body> Engine<B> {
-    /// Runs the schedule `times` times, as `run` does where it answers `Ok`. A fault leaves no trace: the state is as it was at the call, the
-    /// bodies are home and mean what they meant, and the engine isn't spoiled, so that runs may go on. A copy of the state is taken first:
-    /// `Memory` also where an allocation fails for it. Where the mode has threads the bodies run in workers that stand, also in a mode with a
-    /// thread for each start: so none is lost. On an engine that is spoiled already the answer is `Spoiled`, and nothing changes.
+    /// Runs the schedule `times` times, as `run` does where it answers `Ok`. A fault leaves no trace. The state is as
+    /// it was at the call, and the bodies are home and mean what they meant. The engine isn't spoiled, so runs may go
+    /// on. A copy of the state is taken first: `Memory` also where an allocation fails for it. Where the mode has
+    /// threads the bodies run in workers of the whole call, also in a mode with a thread for each start. So none is
+    /// lost. On an engine that is spoiled already the answer is `Spoiled`, and nothing changes.
     pub fn run_kept<'s, M: Mode<'s>>(
         &mut self,
         alloc: Global,

@@ -18,9 +18,9 @@ use std::alloc::Global;
 use std::mem;
 
 impl<B: Body> Engine<B> {
-    /// Puts an input in between runs, at the next tick, and gives the id of a new entity. `ClockSpent` where there is no next tick, or no next
-    /// number for an event, `IdsSpent` where no index is left, `Memory` where an allocation fails, `Spoiled` on an engine that is spoiled. After
-    /// an error nothing has changed.
+    /// Puts an input in between runs, at the next tick, and gives the id of a new entity. `ClockSpent` where there is
+    /// no next tick, or no next number for an event, and `IdsSpent` where no index is left. `Memory` where an
+    /// allocation fails, `Spoiled` on an engine that is spoiled. After an error nothing has changed.
     pub fn input(&mut self, alloc: Global, input: &Input) -> Result<Option<Entity>, InputFault>
         ensures can { OnOk result (can_input (input_of input.now) self.old.state ≡ true) }
         ensures id { IfOk result (λ id. id ≡ input_id (input_of input.now) self.old.state) }
@@ -36,9 +36,9 @@ impl<B: Body> Engine<B> {
         Ok(self.state.input(alloc, input)?)
     }
 
-    /// Sets another state, also on an engine that is spoiled, which is mended by it. `Count` where the state doesn't have the memories of the
-    /// schedule, else `Bodies` where a body was lost with its thread; `Memory` where an allocation fails. After an error nothing has changed, and
-    /// the state that was handed in is dropped.
+    /// Sets another state, also on an engine that is spoiled, which is mended by it. `Count` where the state doesn't
+    /// have the memories of the schedule. Otherwise `Bodies` where a body was lost with its thread. `Memory` where an
+    /// allocation fails. After an error nothing has changed, and the state that was handed in is dropped.
     pub fn set_state(&mut self, alloc: Global, state: State) -> Result<(), SetFault>
         ensures ok { OnOk result (self.new ≡ mended_with state self.old) }
         ensures count { IsErrOf result SetFault.Count ↔ LacksMemories self.old.schedule state }
@@ -74,7 +74,7 @@ impl<B: Body> Engine<B> {
         mem::replace(&mut self.state, State::empty(alloc))
     }
 
-    /// Ends the engine, and gives its state. Of an engine that is spoiled nothing more is said of it.
+    /// Ends the engine, and gives its state. If the engine is spoiled nothing more is said of the state.
     pub fn into_state(self) -> State
         ensures { result ≡ self.state }
     {

@@ -9,8 +9,8 @@ use schedule_builder::Built;
 use std::marker::Model;
 use std::snapshot::Snapshot;
 
-/// A core that is put by between runs, with all that it knows: it borrows no schedule, so that it may stand beside the one that it is for.
-/// Contracts see what they see of the core.
+/// A core that is put by between runs, with all that it knows. It borrows no schedule, so that it may be kept with
+/// the one that it is for. Contracts see what they see of the core.
 pub struct CoreRoom {
     built: Snapshot<Built>,
     begun: NumberSet,

@@ -1,4 +1,4 @@
-use Rattle.archetype_store.proofs.KindsHome.{prove_kinds_home}
+use Rattle.archetype_store.proofs.ColumnsAtHome.{prove_kinds_home}
 use Rattle.archetype_store.proofs.laws.prove_kinds_home.Goals as goal
 
 pub returns : goal.returns

@@ -5,7 +5,7 @@ use Rattle.kinds.specs.Kind.{kind_number}
 use Rattle.column_store.specs.Order.{AreApart}
 use Rattle.column_store.specs.Table.{TableRow, TableValue, empty_table, kind_cells, standing_of, IsHome, IsAlike}
 use Rattle.archetype_store.specs.Tables.{table_at}
-use Rattle.archetype_store.proofs.Standings.{alike_set}
+use Rattle.archetype_store.proofs.ColumnStandings.{alike_set}
 use Rattle.archetype_store.proofs.lending.share_at.Goals as goal
 
 pub share-requires : goal.share-requires

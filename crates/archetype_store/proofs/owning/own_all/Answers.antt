@@ -1,5 +1,5 @@
 use Rattle.std.proofs.Common.{rules}
-use Rattle.archetype_store.proofs.Standings.{alike_self, unshared_are_owned, owned_are_unshared}
+use Rattle.archetype_store.proofs.ColumnStandings.{alike_self, unshared_are_owned, owned_are_unshared}
 use Rattle.archetype_store.proofs.owning.own_all.Goals as goal
 
 pub returns-then-not-shared-clause-ok : goal.returns-then-not-shared-clause-ok

@@ -4,14 +4,14 @@ use Rattle.archetype_store.specs.declared.change.EntityChange.{EntityChange}
 use Rattle.archetype_store.specs.Changes.{AreOfOtherIndices}
 use Rattle.archetype_store.specs.Storage.{archetypes_of, HaveRows}
 use Rattle.archetype_store.specs.RowMoves.{change_of, HaveRoom, HasLeft, IsPlanned, AreAlikeBefore}
-use Rattle.archetype_store.proofs.Changed.{planned_alike, rows_from_alike}
-use Rattle.archetype_store.proofs.Changing.{planned_shapes, ready_whole, ready_known, ready_owned, ready_rows}
-use Rattle.archetype_store.proofs.Departures.{rows_from_before}
-use Rattle.archetype_store.proofs.Moves.{grown_whole, on_err_from, on_ok_holds}
-use Rattle.archetype_store.proofs.Rooms.{alike_twice}
+use Rattle.archetype_store.proofs.TableGrowth.{planned_alike, rows_from_alike}
+use Rattle.archetype_store.proofs.PlannedTables.{planned_shapes, ready_whole, ready_known, ready_owned, ready_rows}
+use Rattle.archetype_store.proofs.RowDepartures.{rows_from_before}
+use Rattle.archetype_store.proofs.SingleRowMove.{grown_whole, on_err_from, on_ok_holds}
+use Rattle.archetype_store.proofs.TableRoom.{alike_twice}
 use Rattle.archetype_store.proofs.TableIndex.{found_shapes}
 use Rattle.std.proofs.lemmas.Result.{IfOk-from_err}
-use Rattle.archetype_store.proofs.Standings.{reached_whole}
+use Rattle.archetype_store.proofs.ColumnStandings.{reached_whole}
 use Rattle.archetype_store.proofs.row_moves.change_in.Goals as goal
 
 pub returns-in_err-rows-clause-err : goal.returns-in_err-rows-clause-err

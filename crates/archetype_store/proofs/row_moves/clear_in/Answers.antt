@@ -6,10 +6,10 @@ use Rattle.column_store.specs.Swapped.{swap_removed}
 use Rattle.archetype_store.specs.Storage.{archetypes_of, place_of, row_in, holder_in, IsHolder, HasRow}
 use Rattle.archetype_store.specs.RowNumbers.{number_of_row, AreRowsKnown}
 use Rattle.archetype_store.specs.Tables.{entity_in_row, entities_at, room_at, IsOneTable}
-use Rattle.archetype_store.proofs.Known.{placed_within, row_there, number_within, place_in_row, known_cleared}
-use Rattle.archetype_store.proofs.Moves.{has_row_kept, placed_set, placed_kept}
-use Rattle.archetype_store.proofs.Steps.{cleared}
-use Rattle.archetype_store.proofs.Standings.{owned_kept}
+use Rattle.archetype_store.proofs.RowNumbers.{placed_within, row_there, number_within, place_in_row, known_cleared}
+use Rattle.archetype_store.proofs.SingleRowMove.{has_row_kept, placed_set, placed_kept}
+use Rattle.archetype_store.proofs.RowSteps.{cleared}
+use Rattle.archetype_store.proofs.ColumnStandings.{owned_kept}
 use Rattle.archetype_store.proofs.row_moves.clear_in.Goals as goal
 
 pub index-row-requires : goal.index-row-requires

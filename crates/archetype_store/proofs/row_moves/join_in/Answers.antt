@@ -4,11 +4,11 @@ use Rattle.std.proofs.lemmas.List.{length-set}
 use Rattle.archetype_store.specs.RowMoves.{one_if}
 use Rattle.archetype_store.specs.RowNumbers.{AreRowsKnown}
 use Rattle.archetype_store.specs.Tables.{room_at}
-use Rattle.archetype_store.proofs.Known.{known_joined}
-use Rattle.archetype_store.proofs.Laid.{nowhere}
-use Rattle.archetype_store.proofs.Moves.{placed_set}
-use Rattle.archetype_store.proofs.Steps.{joined}
-use Rattle.archetype_store.proofs.Standings.{owned_kept}
+use Rattle.archetype_store.proofs.RowNumbers.{known_joined}
+use Rattle.archetype_store.proofs.PlacesAfterRowChange.{nowhere}
+use Rattle.archetype_store.proofs.SingleRowMove.{placed_set}
+use Rattle.archetype_store.proofs.RowSteps.{joined}
+use Rattle.archetype_store.proofs.ColumnStandings.{owned_kept}
 use Rattle.archetype_store.proofs.row_moves.join_in.Goals as goal
 
 pub push_at-row-requires-clause-absent : goal.push_at-row-requires-clause-absent

@@ -2,8 +2,8 @@ use Rattle.std.proofs.Common.{◌≡◌, ◌<◌, ◌-◌, ◌+◌, drop, length
 use Rattle.std.specs.List.{AllByRecursion}
 use Rattle.archetype_store.specs.Storage.{archetypes_of}
 use Rattle.archetype_store.specs.RowMoves.{change_of, other_table, arrives_in, HasLeft, IsPlanned}
-use Rattle.archetype_store.proofs.Departures.{all_stepped, room_after, arrives_first, alike_first, alike_next}
-use Rattle.archetype_store.proofs.MovedRows.{change_is, within, later_apart, gone_more, none_behind}
+use Rattle.archetype_store.proofs.RowDepartures.{all_stepped, room_after, arrives_first, alike_first, alike_next}
+use Rattle.archetype_store.proofs.RowMoveOrder.{change_is, within, later_apart, gone_more, none_behind}
 use Rattle.archetype_store.proofs.RowMoves.{planned_rest, gone_rest}
 use Rattle.archetype_store.proofs.row_moves.leave_all.Goals as goal
 use Rattle.model.proofs.lists.Bools.{apart_number}

@@ -1,8 +1,8 @@
 use Rattle.std.proofs.Common.{None, sym, ◌∙◌}
 use Rattle.archetype_store.specs.Storage.{archetypes_of, place_of}
-use Rattle.archetype_store.proofs.Departures.{arrives_cleared, planned_cleared, cleared_but}
-use Rattle.archetype_store.proofs.Laid.{with_at_same}
-use Rattle.archetype_store.proofs.Moving.{others_kept}
+use Rattle.archetype_store.proofs.RowDepartures.{arrives_cleared, planned_cleared, cleared_but}
+use Rattle.archetype_store.proofs.PlacesAfterRowChange.{with_at_same}
+use Rattle.archetype_store.proofs.RowTargets.{others_kept}
 use Rattle.archetype_store.proofs.row_moves.leave_row.Goals as goal
 
 pub returns-clause-alike : goal.returns-clause-alike

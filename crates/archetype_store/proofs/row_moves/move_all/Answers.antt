@@ -1,7 +1,7 @@
 use Rattle.std.proofs.Common.{◌+◌, map, take, drop, refl, arith, sym, subst, ◌∙◌}
 use Rattle.archetype_store.specs.Storage.{archetypes_of, HaveRows}
 use Rattle.archetype_store.specs.RowMoves.{change_of}
-use Rattle.archetype_store.proofs.MovedRows.{later_apart, earlier_apart, planned_here, gone_here, room_here, taken_next}
+use Rattle.archetype_store.proofs.RowMoveOrder.{later_apart, earlier_apart, planned_here, gone_here, room_here, taken_next}
 use Rattle.archetype_store.proofs.RowMoves.{planned_all_rest, gone_rest, room_rest, room_first, rows_next}
 use Rattle.std.proofs.lemmas.List.{length-map, take_all}
 use Rattle.archetype_store.proofs.row_moves.move_all.Goals as goal

@@ -7,11 +7,11 @@ use Rattle.archetype_store.specs.RowMoves.{arrives_in, stays_there, is_table}
 use Rattle.archetype_store.specs.RowNumbers.{number_of_row}
 use Rattle.archetype_store.specs.Tables.{entity_in_row, kinds_at, IsHeldNow}
 use Rattle.archetype_store.specs.Storage.{archetypes_of, place_of, row_in, holder_in, IsHolder, HasRow}
-use Rattle.archetype_store.proofs.Known.{row_there, number_within, known_kept, one_kept}
-use Rattle.archetype_store.proofs.Moves.{has_row_kept}
-use Rattle.archetype_store.proofs.Moving.{arrives_here, arrives_there, arrives_moves, some_there, others_kept, rooms_same, rooms_once, rooms_joined}
-use Rattle.archetype_store.proofs.Standings.{owned_kept}
-use Rattle.archetype_store.proofs.Steps.{renewed}
+use Rattle.archetype_store.proofs.RowNumbers.{row_there, number_within, known_kept, one_kept}
+use Rattle.archetype_store.proofs.SingleRowMove.{has_row_kept}
+use Rattle.archetype_store.proofs.RowTargets.{arrives_here, arrives_there, arrives_moves, some_there, others_kept, rooms_same, rooms_once, rooms_joined}
+use Rattle.archetype_store.proofs.ColumnStandings.{owned_kept}
+use Rattle.archetype_store.proofs.RowSteps.{renewed}
 use Rattle.archetype_store.proofs.row_moves.move_row.Goals as goal
 
 pub returns-in-None-clause-owned : goal.returns-in-None-clause-owned

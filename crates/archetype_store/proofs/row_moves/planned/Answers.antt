@@ -1,7 +1,7 @@
 use Rattle.std.proofs.Common.{sym, subst}
 use Rattle.archetype_store.specs.Storage.{holder_in, IsHolder}
-use Rattle.archetype_store.proofs.Known.{known_reached}
-use Rattle.archetype_store.proofs.Laying.{grown_known}
+use Rattle.archetype_store.proofs.RowNumbers.{known_reached}
+use Rattle.archetype_store.proofs.TableForRow.{grown_known}
 use Rattle.std.proofs.lemmas.Result.{IfOk-from_err}
 use Rattle.archetype_store.proofs.row_moves.planned.Goals as goal
 

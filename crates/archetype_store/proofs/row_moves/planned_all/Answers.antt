@@ -3,7 +3,7 @@ use Rattle.std.proofs.lemmas.List.{map-append, take_all, take_more}
 use Rattle.std.specs.List.{AllByRecursion}
 use Rattle.model.proofs.lists.Each.{each-append, each-at, each-weaker}
 use Rattle.archetype_store.specs.RowMoves.{change_of, IsPlanned}
-use Rattle.archetype_store.proofs.Changed.{grown_self, grown_trans, planned_kept}
+use Rattle.archetype_store.proofs.TableGrowth.{grown_self, grown_trans, planned_kept}
 use Rattle.std.proofs.lemmas.Result.{IfOk-from_err}
 use Rattle.column_store.specs.Cells.{stamped_number}
 use Rattle.column_store.specs.Kinds.{AreBelow}

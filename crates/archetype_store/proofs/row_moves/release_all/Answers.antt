@@ -4,8 +4,8 @@ use Rattle.column_store.specs.Table.{TableValue}
 use Rattle.archetype_store.specs.RowMoves.{arrives_in, IsPlanned}
 use Rattle.archetype_store.specs.Tables.{with_room, table_at, shape_of, AreAllAlike}
 use Rattle.archetype_store.proofs.RowMoves.{as_many_tables, arrives_within, shapes_room}
-use Rattle.archetype_store.proofs.Rooms.{roomed_alike, alike_twice}
-use Rattle.archetype_store.proofs.Standings.{alike_self}
+use Rattle.archetype_store.proofs.TableRoom.{roomed_alike, alike_twice}
+use Rattle.archetype_store.proofs.ColumnStandings.{alike_self}
 use Rattle.archetype_store.proofs.row_moves.release_all.Goals as goal
 use Rattle.archetype_store.proofs.row_moves.release_all.Goals.{in-Some, in_default}
 

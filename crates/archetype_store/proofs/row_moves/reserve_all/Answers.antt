@@ -4,10 +4,10 @@ use Rattle.model.proofs.serial.Conflicts.{none_from_no as none_of}
 use Rattle.column_store.specs.Table.{TableValue}
 use Rattle.archetype_store.specs.RowMoves.{arrives_in, HaveRoom, IsPlanned}
 use Rattle.archetype_store.specs.Tables.{room_at, with_room, table_at, shape_of, AreAllAlike}
-use Rattle.archetype_store.proofs.MovedRows.{rows_taken}
+use Rattle.archetype_store.proofs.RowMoveOrder.{rows_taken}
 use Rattle.archetype_store.proofs.RowMoves.{as_many_tables, arrives_within, shapes_room, room_kept, room_made}
-use Rattle.archetype_store.proofs.Rooms.{roomed_alike, alike_twice}
-use Rattle.archetype_store.proofs.Standings.{owned_kept, alike_self}
+use Rattle.archetype_store.proofs.TableRoom.{roomed_alike, alike_twice}
+use Rattle.archetype_store.proofs.ColumnStandings.{owned_kept, alike_self}
 use Rattle.archetype_store.proofs.row_moves.reserve_all.Goals as goal
 use Rattle.archetype_store.proofs.row_moves.reserve_all.Goals.{in-Some+in_ok-reserve_at, in_default}
 

@@ -1,7 +1,7 @@
 use Rattle.std.proofs.Common.{subst, sym}
 use Rattle.model.proofs.lists.Each.{each-at}
 use Rattle.archetype_store.specs.Changes.{IsHeldBy}
-use Rattle.archetype_store.proofs.Settled.{held_until}
+use Rattle.archetype_store.proofs.BookChanges.{held_until}
 use Rattle.archetype_store.proofs.settling.settle_all.Goals as goal
 
 pub settle_one-requires : goal.settle_one-requires

@@ -2,7 +2,7 @@ use Rattle.std.proofs.Common.{ap, sym, ◌∙◌}
 use Rattle.model.specs.Lists.{update_at}
 use Rattle.model.specs.state.Commands.{freed}
 use Rattle.archetype_store.specs.Changes.{settled_slot}
-use Rattle.archetype_store.proofs.Settled.{freed_once}
+use Rattle.archetype_store.proofs.BookChanges.{freed_once}
 use Rattle.archetype_store.proofs.settling.settle_one.Goals as goal
 
 pub returns-in-Dies : goal.returns-in-Dies

@@ -5,7 +5,7 @@ use Rattle.std.proofs.lemmas.List.{get_or_default}
 use Rattle.column_store.specs.Order.{AreApart}
 use Rattle.column_store.specs.Table.{TableRow, TableValue, empty_table, is_home}
 use Rattle.archetype_store.specs.Tables.{table_at, held_in, entity_in_row}
-use Rattle.archetype_store.proofs.Held.{in_row_within, row_within, some_is, components_held, on_both}
+use Rattle.archetype_store.proofs.TablesAfterRowChange.{in_row_within, row_within, some_is, components_held, on_both}
 use Rattle.archetype_store.proofs.tables.components_at.Goals as goal
 
 pub read-requires-clause-within : goal.read-requires-clause-within

@@ -6,7 +6,7 @@ use Rattle.column_store.specs.Order.{AreApart}
 use Rattle.column_store.specs.Table.{TableRow, TableValue, empty_table, is_not_away, standing_of}
 use Rattle.archetype_store.specs.Layout.{IsShape}
 use Rattle.archetype_store.specs.Tables.{table_at, held_in, row_or_none, entity_in_row}
-use Rattle.archetype_store.proofs.Held.{in_row_within, row_within, some_is, shape_at, cell_held}
+use Rattle.archetype_store.proofs.TablesAfterRowChange.{in_row_within, row_within, some_is, shape_at, cell_held}
 use Rattle.archetype_store.proofs.tables.find_at.Goals as goal
 
 pub find-requires-clause-within : goal.find-requires-clause-within

@@ -3,9 +3,9 @@ use Rattle.std.specs.List.{list_all}
 use Rattle.std.proofs.lemmas.List.{get_or_default, length-map}
 use Rattle.column_store.specs.Table.{TableRow, TableValue, empty_table, is_owned, row_of}
 use Rattle.archetype_store.specs.Tables.{table_at, entities_at}
-use Rattle.archetype_store.proofs.Held.{held_pushed, one_table, room_here, entities_pushed}
-use Rattle.archetype_store.proofs.Known.{absent_row}
-use Rattle.archetype_store.proofs.Standings.{owned_at}
+use Rattle.archetype_store.proofs.TablesAfterRowChange.{held_pushed, one_table, room_here, entities_pushed}
+use Rattle.archetype_store.proofs.RowNumbers.{absent_row}
+use Rattle.archetype_store.proofs.ColumnStandings.{owned_at}
 use Rattle.archetype_store.proofs.tables.push_at.Goals as goal
 
 pub push-requires-clause-absent : goal.push-requires-clause-absent

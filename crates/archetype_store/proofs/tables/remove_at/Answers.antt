@@ -6,8 +6,8 @@ use Rattle.column_store.specs.Order.{AreApart}
 use Rattle.column_store.specs.Swapped.{swap_removed}
 use Rattle.column_store.specs.Table.{TableRow, TableValue, empty_table, is_owned}
 use Rattle.archetype_store.specs.Tables.{table_at, entity_in_row, entities_at}
-use Rattle.archetype_store.proofs.Held.{in_row_within, row_within, some_is, held_removed, one_table, room_here, entities_swapped}
-use Rattle.archetype_store.proofs.Standings.{owned_at}
+use Rattle.archetype_store.proofs.TablesAfterRowChange.{in_row_within, row_within, some_is, held_removed, one_table, room_here, entities_swapped}
+use Rattle.archetype_store.proofs.ColumnStandings.{owned_at}
 use Rattle.archetype_store.proofs.tables.remove_at.Goals as goal
 
 pub last_of-moved-requires : goal.last_of-moved-requires

@@ -5,8 +5,8 @@ use Rattle.std.proofs.lemmas.List.{get_or_default}
 use Rattle.column_store.specs.Order.{AreApart}
 use Rattle.column_store.specs.Table.{TableRow, TableValue, empty_table, is_owned}
 use Rattle.archetype_store.specs.Tables.{table_at, entity_in_row, entities_at}
-use Rattle.archetype_store.proofs.Held.{in_row_within, row_within, some_is, held_renewed, one_table, room_here, entities_renewed}
-use Rattle.archetype_store.proofs.Standings.{owned_at}
+use Rattle.archetype_store.proofs.TablesAfterRowChange.{in_row_within, row_within, some_is, held_renewed, one_table, room_here, entities_renewed}
+use Rattle.archetype_store.proofs.ColumnStandings.{owned_at}
 use Rattle.archetype_store.proofs.tables.renew_at.Goals as goal
 
 pub renew-requires-clause-within : goal.renew-requires-clause-within

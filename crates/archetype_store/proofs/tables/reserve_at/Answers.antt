@@ -4,7 +4,7 @@ use Rattle.std.proofs.lemmas.List.{get_or_default}
 use Rattle.std.proofs.lemmas.Result.{on_ok_weaker}
 use Rattle.column_store.specs.Table.{TableValue, empty_table, is_owned}
 use Rattle.archetype_store.specs.Tables.{table_at, with_room}
-use Rattle.archetype_store.proofs.Standings.{owned_at}
+use Rattle.archetype_store.proofs.ColumnStandings.{owned_at}
 use Rattle.archetype_store.proofs.tables.reserve_at.Goals as goal
 
 pub reserve-requires : goal.reserve-requires

@@ -3,10 +3,10 @@ use Rattle.std.proofs.lemmas.Result.{on_ok_weaker}
 use Rattle.column_store.specs.Cells.{stamped_number}
 use Rattle.column_store.specs.Table.{TableValue}
 use Rattle.archetype_store.specs.TableIndex.{IsFound}
-use Rattle.archetype_store.proofs.KindSets.{grown_if, some_numbers}
+use Rattle.archetype_store.proofs.KindOrder.{grown_if, some_numbers}
 use Rattle.archetype_store.proofs.TableIndex.{kinds_found, none_found}
 use Rattle.std.proofs.lemmas.Result.{IfOk-from_err}
-use Rattle.archetype_store.proofs.Changed.{grown_self, table_added, kinds_added}
+use Rattle.archetype_store.proofs.TableGrowth.{grown_self, table_added, kinds_added}
 use Rattle.archetype_store.proofs.tables.table_for.Goals as goal
 
 pub returns-in-Some-clause-within : goal.returns-in-Some-clause-within

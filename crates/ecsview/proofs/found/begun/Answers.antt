@@ -1,6 +1,6 @@
 use Rattle.std.proofs.Common.{subst, sym}
 use Rattle.engine.specs.Meanings.{HasMemories}
-use Rattle.engine.proofs.Beginning.{has_first}
+use Rattle.engine.proofs.FirstState.{has_first}
 use Rattle.ecsview.proofs.found.begun.Goals as goal
 
 -- it has the memories of the schedule

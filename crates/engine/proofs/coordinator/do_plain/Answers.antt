@@ -11,9 +11,9 @@ use Rattle.engine.specs.Jobs.{woven, InHand}
 use Rattle.engine.specs.Next.{StopsOffered}
 use Rattle.engine.specs.Stage.{Stage, IsTake}
 use Rattle.engine.specs.Stops.{CannotSync, LacksTick}
-use Rattle.engine.proofs.Staging.{stage_ask, stage_skip, none_out, stops_ask, stops_sync, stops_plain}
-use Rattle.engine.proofs.Recorded.{listed_synced, stage_synced}
-use Rattle.engine.proofs.Remembering.{memories_synced}
+use Rattle.engine.proofs.RunStages.{stage_ask, stage_skip, none_out, stops_ask, stops_sync, stops_plain}
+use Rattle.engine.proofs.RunRecord.{listed_synced, stage_synced}
+use Rattle.engine.proofs.StateMemories.{memories_synced}
 use Rattle.engine.proofs.Stops.{stops_among}
 use Rattle.engine.proofs.Turns.{ask_allowed, sync_fresh, placed_asked, placed_synced, in_hand_none, in_hand_asked, home_end}
 use Rattle.engine.proofs.coordinator.do_plain.Goals as goal

@@ -13,8 +13,8 @@ use Rattle.engine.specs.declared.turn.Turn.{Turn}
 use Rattle.engine.specs.Jobs.{woven, AreKept}
 use Rattle.engine.specs.Next.{KeepsNext, StopsNext}
 use Rattle.engine.specs.Stage.{IsTake, IsTurn}
-use Rattle.engine.proofs.Placing.{placed_kept}
-use Rattle.engine.proofs.Staging.{stage_start, stage_finish, running_there, stops_start, stops_finish, stops_plain}
+use Rattle.engine.proofs.JobsOut.{placed_kept}
+use Rattle.engine.proofs.RunStages.{stage_start, stage_finish, running_there, stops_start, stops_finish, stops_plain}
 use Rattle.engine.proofs.Stops.{none_ok, stops_up}
 use Rattle.engine.proofs.Turns.{start_allowed}
 use Rattle.engine.proofs.coordinator.do_turn.Goals as goal

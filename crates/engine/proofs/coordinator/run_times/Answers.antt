@@ -6,8 +6,8 @@ use Rattle.model.specs.runs.WideRuns.{IsWideRun, AreWideRuns, IsWideStopped, Wid
 use Rattle.worker_pool.specs.JobOut.{JobOut}
 use Rattle.engine.specs.Jobs.{AreKept}
 use Rattle.engine.specs.Meanings.{meanings}
-use Rattle.engine.proofs.Placing.{kept_last, kept_fits, meanings_count}
-use Rattle.engine.proofs.Staging.{records_more, runs_more, stopped}
+use Rattle.engine.proofs.JobsOut.{kept_last, kept_fits, meanings_count}
+use Rattle.engine.proofs.RunStages.{records_more, runs_more, stopped}
 use Rattle.engine.specs.Stops.{StopsBy}
 use Rattle.engine.proofs.Stops.{either_way, lost_or_kept, one_stop, stops_up}
 use Rattle.model.proofs.lists.Results.{handed_on}

@@ -6,8 +6,8 @@ use Rattle.model.specs.runs.WideRuns.{IsWideRun, AreWideRuns, IsWideStopped, Wid
 use Rattle.model.proofs.lists.Results.{handed_on}
 use Rattle.engine.specs.Meanings.{meanings}
 use Rattle.engine.specs.Stops.{StopsBy}
-use Rattle.engine.proofs.Placing.{kept_last, kept_fits, meanings_count}
-use Rattle.engine.proofs.Staging.{records_more, runs_more, stopped}
+use Rattle.engine.proofs.JobsOut.{kept_last, kept_fits, meanings_count}
+use Rattle.engine.proofs.RunStages.{records_more, runs_more, stopped}
 use Rattle.engine.proofs.Stops.{stops_up}
 use Rattle.engine.proofs.coordinator.run_times_here.Goals as goal
 

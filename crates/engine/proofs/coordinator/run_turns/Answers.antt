@@ -11,14 +11,14 @@ use Rattle.engine.specs.Meanings.{meanings}
 use Rattle.engine.specs.Next.{IsBetween, IsNext}
 use Rattle.engine.specs.Stops.{CannotOpen, StopsBy}
 use Rattle.engine.specs.Starts.{starts_in, starts_with}
-use Rattle.engine.proofs.Placing.{meanings_count, placed_first, placed_kept}
-use Rattle.engine.proofs.Staging.{stage_open, stage_end, stops_open, none_there, falls}
+use Rattle.engine.proofs.JobsOut.{meanings_count, placed_first, placed_kept}
+use Rattle.engine.proofs.RunStages.{stage_open, stage_end, stops_open, none_there, falls}
 use Rattle.engine.proofs.Stops.{lost_or_kept, stops_among}
 use Rattle.engine.proofs.LevelGrants.{no_elements}
 use Rattle.engine.proofs.Turns.{turn_next, placed_open, in_hand_none, rest_end}
 use Rattle.executor_core.specs.Stands.{AreMeetings}
 use Rattle.engine.specs.Latest.{IsFollowing}
-use Rattle.engine.proofs.Ended.{following_on, latest_there}
+use Rattle.engine.proofs.RunEnd.{following_on, latest_there}
 use Rattle.engine.proofs.coordinator.run_turns.Goals as goal
 use Rattle.model.proofs.lists.Results.{handed_on}
 

@@ -11,9 +11,9 @@ use Rattle.engine.specs.Alone.{IsBetweenAlone}
 use Rattle.engine.specs.Next.{IsBetween}
 use Rattle.engine.specs.Stage.{IsTake}
 use Rattle.engine.specs.Stops.{StopsBy}
-use Rattle.engine.proofs.Alone.{may_at}
-use Rattle.engine.proofs.Ended.{latest_there}
-use Rattle.engine.proofs.Placing.{placed_kept}
+use Rattle.engine.proofs.TurnAlone.{may_at}
+use Rattle.engine.proofs.RunEnd.{latest_there}
+use Rattle.engine.proofs.JobsOut.{placed_kept}
 use Rattle.engine.proofs.coordinator.turn_alone.Goals as goal
 
 pub start_alone-requires-clause-next : goal.start_alone-requires-clause-next

@@ -1,6 +1,6 @@
 use Rattle.std.proofs.Common.{refl, arith, ◌∙◌}
 use Rattle.std.proofs.lemmas.List.{length-set}
-use Rattle.engine.proofs.Emptying.{emptied_more, emptied_all}
+use Rattle.engine.proofs.EmptyLists.{emptied_more, emptied_all}
 use Rattle.engine.proofs.deferred.empty_grants.Goals as goal
 
 pub loop-granted-init : goal.loop-granted-init

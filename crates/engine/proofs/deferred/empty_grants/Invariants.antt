@@ -1,5 +1,5 @@
 use Rattle.std.proofs.Common.{◌≡◌, length}
-use Rattle.engine.proofs.Emptying.{AreEmptyTo}
+use Rattle.engine.proofs.EmptyLists.{AreEmptyTo}
 use Rattle.engine.proofs.deferred.empty_grants.Given as goal
 
 abbrev pub invariant-loop-granted : goal.invariant-loop-granted

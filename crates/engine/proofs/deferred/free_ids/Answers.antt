@@ -1,7 +1,7 @@
 use Rattle.std.proofs.Common.{ℕ, List, [], ◌∙◌, ◌+◌, ap, drop, get_or, sym}
 use Rattle.std.proofs.lemmas.List.{drop_all, get_or_default}
 use Rattle.engine.specs.Deferred.{grants_of}
-use Rattle.engine.proofs.Freeing.{freed_in, freed_more, freed_none}
+use Rattle.engine.proofs.SyncPointState.{freed_in, freed_more, freed_none}
 use Rattle.engine.proofs.deferred.free_ids.Goals as goal
 
 pub loop-system-preserved : goal.loop-system-preserved

@@ -1,6 +1,6 @@
 use Rattle.std.proofs.Common.{◌≡◌, drop}
 use Rattle.engine.specs.Deferred.{grants_of}
-use Rattle.engine.proofs.Freeing.{freed_in}
+use Rattle.engine.proofs.SyncPointState.{freed_in}
 use Rattle.engine.proofs.deferred.free_ids.Given as goal
 
 abbrev pub invariant-loop-system : goal.invariant-loop-system

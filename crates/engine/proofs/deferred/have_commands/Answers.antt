@@ -3,7 +3,7 @@ use Rattle.std.proofs.lemmas.List.{drop_all, get_or_default}
 use Rattle.model.specs.Lists.{is_there}
 use Rattle.model.specs.shown.Outcome.{Command}
 use Rattle.command_queue.specs.Commands.{commands_of}
-use Rattle.engine.proofs.Commanded.{next_commands, no_commands, some_commands}
+use Rattle.engine.proofs.LevelCommands.{next_commands, no_commands, some_commands}
 use Rattle.engine.proofs.deferred.have_commands.Goals as goal
 
 pub loop-system-preserved : goal.loop-system-preserved

@@ -5,7 +5,7 @@ use Rattle.model.proofs.lists.Lists.{has-IsIn}
 use Rattle.model.specs.steps.Schedule.{Schedule, level_of}
 use Rattle.model.specs.steps.Built.{IsBuilt}
 use Rattle.access_set.proofs.Choices.{in_at as in-get_or}
-use Rattle.engine.proofs.Levelling.{AreLevelsOf, level_more}
+use Rattle.engine.proofs.LevelSystems.{AreLevelsOf, level_more}
 use Rattle.engine.proofs.deferred.levels_of.Goals as goal
 
 -- what stands in the order is a system

@@ -1,6 +1,6 @@
 use Rattle.std.proofs.Common.{◌≡◌, length, take}
 use Rattle.model.specs.steps.Schedule.{level_of}
-use Rattle.engine.proofs.Levelling.{AreLevelsOf}
+use Rattle.engine.proofs.LevelSystems.{AreLevelsOf}
 use Rattle.engine.proofs.deferred.levels_of.Given as goal
 
 abbrev pub invariant-loop-system : goal.invariant-loop-system

@@ -2,7 +2,7 @@ use Rattle.std.proofs.Common.{List, sym, subst}
 use Rattle.model.specs.state.State.{Memory}
 use Rattle.body.specs.Steps.{AreInTime}
 use Rattle.engine.specs.FirstState.{first_systems}
-use Rattle.engine.proofs.Beginning.{first_in_time}
+use Rattle.engine.proofs.FirstState.{first_in_time}
 use Rattle.engine.proofs.first_state.first_state.Goals as goal
 
 pub new-state-requires-clause-last_runs : goal.new-state-requires-clause-last_runs

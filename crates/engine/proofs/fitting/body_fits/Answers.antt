@@ -1,7 +1,7 @@
 use Rattle.std.proofs.Common.{subst}
 use Rattle.model.specs.steps.Schedule.{params_of}
 use Rattle.body.specs.Keeps.{KeepsWithin}
-use Rattle.engine.proofs.Keeping.{keeps-at}
+use Rattle.engine.proofs.BodiesWithin.{keeps-at}
 use Rattle.engine.proofs.fitting.body_fits.Goals as goal
 
 pub returns-clause-keeps : goal.returns-clause-keeps

@@ -2,7 +2,7 @@ use Rattle.std.proofs.Common.{◌≡◌, List, [], refl, sym, subst, arith}
 use Rattle.std.proofs.lemmas.Bool.{false≢true}
 use Rattle.worker_pool.specs.JobOut.{JobOut}
 use Rattle.engine.specs.Jobs.{AreKept}
-use Rattle.engine.proofs.Returning.{back_from, kept_back, job_there}
+use Rattle.engine.proofs.SystemFinish.{back_from, kept_back, job_there}
 use Rattle.engine.proofs.LevelGrants.{no_elements}
 use denote.Param.Send.{sendable}
 use Rattle.engine.proofs.jobs.bring_home.Goals as goal

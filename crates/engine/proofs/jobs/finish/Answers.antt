@@ -8,8 +8,8 @@ use Rattle.worker_pool.specs.JobOut.{JobOut}
 use Rattle.engine.specs.Jobs.{woven, AreKept, InHand, Placed}
 use Rattle.engine.specs.Deferred.{DeferredValue}
 use Rattle.engine.specs.Stops.{IsNotLaid, StopsBy}
-use Rattle.engine.proofs.Placing.{placed_kept}
-use Rattle.engine.proofs.Returning.{back_from, back_in, back_known, back_memory, back_lent, back_past, back_not_laid, back_finished, back_in_hand, back_placed, kept_back, job_there}
+use Rattle.engine.proofs.JobsOut.{placed_kept}
+use Rattle.engine.proofs.SystemFinish.{back_from, back_in, back_known, back_memory, back_lent, back_past, back_not_laid, back_finished, back_in_hand, back_placed, kept_back, job_there}
 use Rattle.engine.proofs.Stops.{stops_among}
 use Rattle.model.specs.shown.Outcome.{BodyMeaning}
 use Rattle.engine.proofs.jobs.finish.Goals as goal

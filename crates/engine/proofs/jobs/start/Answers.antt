@@ -15,8 +15,8 @@ use Rattle.engine.specs.Stops.{LacksTick, StopsBy}
 use Rattle.engine.specs.declared.stop.Stop.{Stop}
 use Rattle.engine.specs.declared.stop.Stop.TheVariants as stop
 use Rattle.worker_pool.specs.declared.fault.HandOutFault.TheVariants as hand
-use Rattle.engine.proofs.Placing.{IsHanded, body-there, put_again, start_there, placed_start}
-use Rattle.engine.proofs.Starting.{in_hand_start}
+use Rattle.engine.proofs.JobsOut.{IsHanded, body-there, put_again, start_there, placed_start}
+use Rattle.engine.proofs.SystemStart.{in_hand_start}
 use Rattle.engine.proofs.Stops.{stops_among}
 use denote.Param.Send.{sendable}
 use Rattle.engine.proofs.jobs.start.Goals as goal

@@ -3,7 +3,7 @@ use Rattle.std.specs.Prelude.{IfSome}
 use Rattle.executor_core.specs.Stands.{Stand}
 use Rattle.engine.specs.Latest.{IsCoreFor}
 use Rattle.engine.specs.declared.resting.RestingCore.{RestingCore}
-use Rattle.engine.proofs.Ended.{meetings_first}
+use Rattle.engine.proofs.RunEnd.{meetings_first}
 use Rattle.engine.proofs.resting.core_in.Goals as goal
 
 -- a new one

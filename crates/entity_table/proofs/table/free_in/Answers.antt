@@ -5,7 +5,7 @@ use Rattle.model.specs.state.State.{Slot, fresh_slot, is_vacant}
 use Rattle.model.specs.state.Commands.{freed}
 use Rattle.entity_table.specs.Ids.{slot_at}
 use Rattle.entity_table.proofs.Edits.{set-written}
-use Rattle.entity_table.proofs.Keeping.{room_for_one, kept-freed, kept-retired}
+use Rattle.entity_table.proofs.BookShape.{room_for_one, kept-freed, kept-retired}
 use Rattle.entity_table.proofs.table.free_in.Goals as goal
 use Rattle.entity_table.proofs.table.free_in.Goals.{After-is_vacant}
 

@@ -13,7 +13,7 @@ use Rattle.body.specs.Steps.{store_of}
 use Rattle.body.proofs.Outs.{all-home, none-out}
 use Rattle.engine.specs.Deferred.{AreInHand, DeferredValue, IsDeferredFor, run_with}
 use Rattle.engine.specs.Meanings.{Suits, meanings}
-use Rattle.engine.proofs.Remembering.{memories_opened}
+use Rattle.engine.proofs.StateMemories.{memories_opened}
 use Rattle.findings.specs.Worlds.{worlds_text}
 use Rattle.trace_checker.proofs.StepsRecording.{known_by}
 use Rattle.trace_checker.proofs.Taking.{known_at}

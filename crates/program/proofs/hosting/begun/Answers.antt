@@ -1,6 +1,6 @@
 use Rattle.std.proofs.Common.{Some, Err, inl, inr, ap, ◌∙◌}
 use Rattle.std.proofs.lemmas.List.{length-map}
-use Rattle.engine.proofs.Beginning.{no_first_lacks}
+use Rattle.engine.proofs.FirstState.{no_first_lacks}
 use Rattle.program.proofs.Serving.{no-misfit}
 use Rattle.program.proofs.hosting.begun.Goals as goal
 

@@ -1,7 +1,7 @@
 use Rattle.std.proofs.Common.{◌≡◌, Some, Err, inl, inr, refl, sym, subst, ◌∙◌, ap, ap₂, rules, string_bytes}
 use Rattle.std.proofs.lemmas.List.{length-map}
 use denote.Param.Send.{sendable}
-use Rattle.engine.proofs.Beginning.{no_first_lacks}
+use Rattle.engine.proofs.FirstState.{no_first_lacks}
 use Rattle.engine.specs.EngineValue.{EngineValue}
 use Rattle.engine.specs.FirstState.{first_state}
 use Rattle.engine.specs.Meanings.{meanings}

@@ -3,7 +3,7 @@ use Rattle.std.proofs.Math.Nat.{min-le_left}
 use Rattle.model.proofs.lists.Results.{handed_on}
 use Rattle.model.specs.steps.Schedule.{Schedule}
 use Rattle.engine.specs.Meanings.{meanings}
-use Rattle.engine.proofs.AtHome.{unlike}
+use Rattle.engine.proofs.BodiesAtHome.{unlike}
 use Rattle.program.specs.Recorded.{HaveKept, IsKeptOf}
 use Rattle.program.specs.Setup.{script_means}
 use Rattle.program.proofs.Noting.{next-noted, none-noted, noted_all, noted_long}

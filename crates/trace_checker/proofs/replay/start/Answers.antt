@@ -9,7 +9,7 @@ use Rattle.body.proofs.Outs.{home-apart}
 use Rattle.model.specs.steps.Schedule.{params_of}
 use Rattle.engine.specs.Deferred.{DeferredValue, AreInHand, IsDeferredFor, run_with, with_commands}
 use Rattle.engine.specs.Meanings.{HasMemories, meanings}
-use Rattle.engine.proofs.Weaving.{numbers_of}
+use Rattle.engine.proofs.InterleavedSteps.{numbers_of}
 use Rattle.model.specs.runs.Replays.{IsStepTaken}
 use Rattle.engine.specs.Stops.{IsNotLaid, LacksTick, StopsBy}
 use Rattle.engine.proofs.Stops.{stops_up}

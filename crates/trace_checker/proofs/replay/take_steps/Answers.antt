@@ -12,7 +12,7 @@ use Rattle.body.specs.Steps.{store_of}
 use Rattle.body.proofs.Outs.{all-home, none-out}
 use Rattle.engine.specs.Deferred.{grants_at, run_with}
 use Rattle.engine.specs.Meanings.{meanings}
-use Rattle.engine.proofs.Remembering.{memories_opened}
+use Rattle.engine.proofs.StateMemories.{memories_opened}
 use Rattle.trace_checker.specs.ReplayFaults.{IsFaultOf, IsReplayFault, IsStepFault}
 use Rattle.engine.specs.Stops.{CannotOpen, fault_of}
 use Rattle.engine.proofs.Stops.{stops_up}

@@ -1,6 +1,6 @@
 use Rattle.std.proofs.Common.{true, false, refl, ap, sym}
 use Rattle.archetype_store.specs.Entities.{EntitiesValue}
-use Rattle.archetype_store.proofs.BareSlots.{bare_is}
+use Rattle.archetype_store.proofs.EmptyEntities.{bare_is}
 use Rattle.archetype_store.proofs.entities.Entities.bare_at.Goals as goal
 
 pub returns-then-not-lives : goal.returns-then-not-lives

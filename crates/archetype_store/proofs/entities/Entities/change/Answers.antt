@@ -6,7 +6,7 @@ use Rattle.archetype_store.specs.declared.change.EntityChange.{EntityChange}
 use Rattle.archetype_store.specs.Changes.{changed, IsHeldBy}
 use Rattle.archetype_store.specs.Storage.{row_of, holder_of, IsHolder}
 use Rattle.archetype_store.specs.Entities.{EntitiesValue, HasRows}
-use Rattle.archetype_store.proofs.Settled.{slots_changed, rows_settled, held_in_book, below_left}
+use Rattle.archetype_store.proofs.BookChanges.{slots_changed, rows_settled, held_in_book, below_left}
 use Rattle.archetype_store.proofs.SlotRows.{holder_there}
 use Rattle.archetype_store.proofs.entities.Entities.change.Goals as goal
 

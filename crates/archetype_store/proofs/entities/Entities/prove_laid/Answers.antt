@@ -1,7 +1,7 @@
 use Rattle.std.proofs.Common.{subst}
 use Rattle.archetype_store.specs.Layout.{IsLayoutOf}
 use Rattle.archetype_store.specs.Entities.{EntitiesValue}
-use Rattle.archetype_store.proofs.Layouts.{slots_laid}
+use Rattle.archetype_store.proofs.TableLayouts.{slots_laid}
 use Rattle.archetype_store.proofs.entities.Entities.prove_laid.Goals as goal
 
 pub returns : goal.returns

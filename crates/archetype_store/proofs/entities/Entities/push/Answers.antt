@@ -5,7 +5,7 @@ use Rattle.entity_table.proofs.WithRows.{length-with_rows}
 use Rattle.archetype_store.specs.Storage.{row_of}
 use Rattle.archetype_store.specs.Entities.{EntitiesValue}
 use Rattle.archetype_store.proofs.SlotRows.{past_bare, rows-kept}
-use Rattle.archetype_store.proofs.PushedSlots.{alive-pushed, with_rows-pushed}
+use Rattle.archetype_store.proofs.NewSlots.{alive-pushed, with_rows-pushed}
 use Rattle.archetype_store.proofs.entities.Entities.push.Goals as goal
 use Rattle.archetype_store.proofs.entities.Entities.push.Goals.{After-push}
 

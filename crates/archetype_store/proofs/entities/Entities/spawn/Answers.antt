@@ -13,7 +13,7 @@ use Rattle.archetype_store.specs.Row.{component_of}
 use Rattle.archetype_store.specs.Storage.{row_of}
 use Rattle.archetype_store.specs.Entities.{EntitiesValue, HasRows}
 use Rattle.archetype_store.proofs.NewEntity.{alone, id_next, granted_held, slots_new}
-use Rattle.archetype_store.proofs.Settled.{rows_settled, below_left}
+use Rattle.archetype_store.proofs.BookChanges.{rows_settled, below_left}
 use Rattle.archetype_store.proofs.SlotRows.{holder_there, rows-kept}
 use Rattle.archetype_store.proofs.entities.Entities.spawn.Goals as goal
 use Rattle.archetype_store.proofs.entities.Entities.spawn.Goals.{After-grant, After-index-entity}

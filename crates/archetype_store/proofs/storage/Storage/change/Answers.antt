@@ -5,14 +5,14 @@ use Rattle.model.proofs.lists.Each.{each-weaker}
 use Rattle.archetype_store.specs.declared.change.EntityChange.{EntityChange}
 use Rattle.archetype_store.specs.Layout.{AreAllHome}
 use Rattle.archetype_store.specs.Storage.{StorageValue, archetypes_of, holder_of, holder_in, place_of, IsHolder, AreAlike, HaveRows}
-use Rattle.archetype_store.proofs.Laid.{holder_seen}
-use Rattle.archetype_store.proofs.Moves.{alike_trans, on_err_from}
-use Rattle.archetype_store.proofs.Changed.{rows_from_alike}
-use Rattle.archetype_store.proofs.Standings.{home_tables, alike_value, value_alike, alike_whole, alike_stored, alike_all_home, owned_stored, owned_layout}
+use Rattle.archetype_store.proofs.PlacesAfterRowChange.{holder_seen}
+use Rattle.archetype_store.proofs.SingleRowMove.{alike_trans, on_err_from}
+use Rattle.archetype_store.proofs.TableGrowth.{rows_from_alike}
+use Rattle.archetype_store.proofs.ColumnStandings.{home_tables, alike_value, value_alike, alike_whole, alike_stored, alike_all_home, owned_stored, owned_layout}
 use Rattle.archetype_store.specs.TableIndex.{IsFound, IsIndexed}
 use Rattle.archetype_store.proofs.TableIndex.{alike_found, alike_indexed}
-use Rattle.archetype_store.proofs.Known.{known_kept}
-use Rattle.archetype_store.proofs.Rooms.{alike_entities}
+use Rattle.archetype_store.proofs.RowNumbers.{known_kept}
+use Rattle.archetype_store.proofs.TableRoom.{alike_entities}
 use Rattle.archetype_store.proofs.storage.Storage.change.Goals as goal
 
 pub own_all-requires-clause-home : goal.own_all-requires-clause-home

@@ -3,7 +3,7 @@ use Rattle.std.proofs.lemmas.Result.{on_ok_weaker}
 use Rattle.archetype_store.specs.Row.{component_of}
 use Rattle.archetype_store.specs.Tables.{row_or_none}
 use Rattle.archetype_store.specs.Storage.{StorageValue, row_of, place_of, row_in}
-use Rattle.archetype_store.proofs.Laid.{row_seen}
+use Rattle.archetype_store.proofs.PlacesAfterRowChange.{row_seen}
 use Rattle.std.proofs.Common.{subst}
 use Rattle.std.specs.List.{list_all}
 use Rattle.column_store.specs.Table.{TableValue, is_home}
@@ -13,7 +13,7 @@ use Rattle.std.proofs.lemmas.List.{get_or_read}
 use Rattle.model.specs.declared.entities.Entity.{Entity}
 use Rattle.archetype_store.specs.RowNumbers.{number_of_row}
 use Rattle.archetype_store.specs.Tables.{entity_in_row, table_at}
-use Rattle.archetype_store.proofs.Known.{row_there, number_within}
+use Rattle.archetype_store.proofs.RowNumbers.{row_there, number_within}
 use Rattle.archetype_store.proofs.storage.Storage.components.Goals as goal
 
 pub components_at-requires-clause-home : goal.components_at-requires-clause-home

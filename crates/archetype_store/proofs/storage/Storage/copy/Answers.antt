@@ -3,8 +3,8 @@ use Rattle.column_store.specs.Table.{owned}
 use Rattle.archetype_store.specs.Layout.{AreAllHome}
 use Rattle.archetype_store.specs.Storage.{StorageValue}
 use Rattle.archetype_store.specs.Tables.{AreHome}
-use Rattle.archetype_store.proofs.Standings.{home_tables}
-use Rattle.archetype_store.proofs.Copied.{copied_value, copied_whole}
+use Rattle.archetype_store.proofs.ColumnStandings.{home_tables}
+use Rattle.archetype_store.proofs.TableCopies.{copied_value, copied_whole}
 use Rattle.archetype_store.proofs.storage.Storage.copy.Goals as goal
 
 pub copied_tables-requires : goal.copied_tables-requires

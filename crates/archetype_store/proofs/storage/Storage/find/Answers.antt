@@ -1,7 +1,7 @@
 use Rattle.std.proofs.Common.{◌≡◌, List, is_some, refl, arith, Some, None, sym, ap, ◌∙◌}
 use Rattle.model.specs.state.Rows.{cell_at}
 use Rattle.archetype_store.specs.Storage.{StorageValue, row_of, place_of, row_in}
-use Rattle.archetype_store.proofs.Laid.{row_seen}
+use Rattle.archetype_store.proofs.PlacesAfterRowChange.{row_seen}
 use Rattle.std.proofs.Common.{subst}
 use Rattle.column_store.specs.Table.{TableValue, is_not_away, standing_of}
 use Rattle.archetype_store.specs.Layout.{IsCellHome}
@@ -10,7 +10,7 @@ use Rattle.std.proofs.lemmas.List.{get_or_read}
 use Rattle.model.specs.declared.entities.Entity.{Entity}
 use Rattle.archetype_store.specs.RowNumbers.{number_of_row}
 use Rattle.archetype_store.specs.Tables.{entity_in_row, table_at}
-use Rattle.archetype_store.proofs.Known.{row_there, number_within}
+use Rattle.archetype_store.proofs.RowNumbers.{row_there, number_within}
 use Rattle.archetype_store.proofs.storage.Storage.find.Goals as goal
 
 pub find_at-requires-clause-home : goal.find_at-requires-clause-home

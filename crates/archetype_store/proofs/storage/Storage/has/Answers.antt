@@ -3,10 +3,10 @@ use Rattle.model.specs.Lists.{has}
 use Rattle.model.specs.state.Rows.{kinds_of}
 use Rattle.model.specs.declared.entities.Entity.{Entity}
 use Rattle.archetype_store.specs.Storage.{StorageValue, row_of, place_of, row_in}
-use Rattle.archetype_store.proofs.Held.{held_within}
-use Rattle.archetype_store.proofs.Laid.{row_seen, somewhere}
+use Rattle.archetype_store.proofs.TablesAfterRowChange.{held_within}
+use Rattle.archetype_store.proofs.PlacesAfterRowChange.{row_seen, somewhere}
 use Rattle.archetype_store.proofs.RowEdits.{kinds-among}
-use Rattle.archetype_store.proofs.Steps.{kinds_at_place}
+use Rattle.archetype_store.proofs.RowSteps.{kinds_at_place}
 use Rattle.archetype_store.proofs.storage.Storage.has.Goals as goal
 
 pub returns-in-None : goal.returns-in-None

@@ -2,8 +2,8 @@ use Rattle.std.proofs.Common.{◌≡◌, not, Some, None, refl, sym, ap, ◌∙�
 use Rattle.model.specs.Lists.{is_there}
 use Rattle.model.specs.declared.entities.Entity.{Entity}
 use Rattle.archetype_store.specs.Storage.{StorageValue, row_of, place_of, row_in}
-use Rattle.archetype_store.proofs.Laid.{row_seen, somewhere, row_there}
-use Rattle.archetype_store.proofs.Steps.{kinds_at_place}
+use Rattle.archetype_store.proofs.PlacesAfterRowChange.{row_seen, somewhere, row_there}
+use Rattle.archetype_store.proofs.RowSteps.{kinds_at_place}
 use Rattle.archetype_store.proofs.storage.Storage.is_bare.Goals as goal
 
 pub returns-in-None : goal.returns-in-None

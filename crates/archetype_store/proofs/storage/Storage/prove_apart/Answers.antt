@@ -2,7 +2,7 @@ use Rattle.std.proofs.Common.{subst}
 use Rattle.std.specs.List.{AllByRecursion}
 use Rattle.column_store.specs.Order.{AreApart}
 use Rattle.archetype_store.specs.Storage.{StorageValue}
-use Rattle.archetype_store.proofs.Known.{layout_apart}
+use Rattle.archetype_store.proofs.RowNumbers.{layout_apart}
 use Rattle.archetype_store.proofs.storage.Storage.prove_apart.Goals as goal
 
 pub returns : goal.returns

@@ -1,6 +1,6 @@
 use Rattle.std.proofs.Common.{subst}
 use Rattle.archetype_store.specs.Storage.{IsLaidOut}
-use Rattle.archetype_store.proofs.Layouts.{laid_out}
+use Rattle.archetype_store.proofs.TableLayouts.{laid_out}
 use Rattle.archetype_store.proofs.storage.Storage.prove_laid.Goals as goal
 
 pub returns : goal.returns

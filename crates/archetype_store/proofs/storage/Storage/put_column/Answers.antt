@@ -6,8 +6,8 @@ use Rattle.archetype_store.specs.Tables.{table_at}
 use Rattle.archetype_store.specs.Storage.{StorageValue, archetypes_of, IsFilled}
 use Rattle.archetype_store.proofs.ArchetypeColumns.{entities_filled, away_there, entities_there, no_column, stored_homed, there_filled, value_homed}
 use Rattle.archetype_store.proofs.TableIndex.{set_indexed}
-use Rattle.archetype_store.proofs.Known.{known_kept}
-use Rattle.archetype_store.proofs.Rooms.{set_entities}
+use Rattle.archetype_store.proofs.RowNumbers.{known_kept}
+use Rattle.archetype_store.proofs.TableRoom.{set_entities}
 use Rattle.archetype_store.proofs.storage.Storage.put_column.Goals as goal
 
 pub unreachable-requires : goal.unreachable-requires

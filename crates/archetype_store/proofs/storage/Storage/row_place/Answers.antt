@@ -7,10 +7,10 @@ use Rattle.archetype_store.specs.Layout.{archetype_at, layout_of}
 use Rattle.archetype_store.specs.Storage.{StorageValue, row_of, place_of, row_in}
 use Rattle.archetype_store.specs.RowNumbers.{number_of_row}
 use Rattle.archetype_store.specs.Tables.{number_of, entity_in_row}
-use Rattle.archetype_store.proofs.Laid.{row_seen, somewhere, row_there}
-use Rattle.archetype_store.proofs.Known.{number_within}
-use Rattle.archetype_store.proofs.RowsPlaced.{number_known, stands_there}
-use Rattle.archetype_store.proofs.Steps.{kinds_at_place}
+use Rattle.archetype_store.proofs.PlacesAfterRowChange.{row_seen, somewhere, row_there}
+use Rattle.archetype_store.proofs.RowNumbers.{number_within}
+use Rattle.archetype_store.proofs.RowsOfArchetypes.{number_known, stands_there}
+use Rattle.archetype_store.proofs.RowSteps.{kinds_at_place}
 use Rattle.archetype_store.proofs.storage.Storage.row_place.Goals as goal
 
 pub returns-in-None-clause-there : goal.returns-in-None-clause-there

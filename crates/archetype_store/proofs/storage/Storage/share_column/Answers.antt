@@ -4,11 +4,11 @@ use Rattle.std.proofs.lemmas.Result.{IfOk-weaker}
 use Rattle.kinds.specs.Kind.{kind_number}
 use Rattle.archetype_store.specs.Layout.{layout_of, archetype_at, column_home}
 use Rattle.archetype_store.specs.Storage.{StorageValue, row_cells}
-use Rattle.archetype_store.proofs.Standings.{alike_value, alike_stored}
+use Rattle.archetype_store.proofs.ColumnStandings.{alike_value, alike_stored}
 use Rattle.archetype_store.proofs.ArchetypeColumns.{home_there, no_column, column_seen}
 use Rattle.archetype_store.proofs.TableIndex.{alike_indexed}
-use Rattle.archetype_store.proofs.Known.{known_kept}
-use Rattle.archetype_store.proofs.Rooms.{alike_entities}
+use Rattle.archetype_store.proofs.RowNumbers.{known_kept}
+use Rattle.archetype_store.proofs.TableRoom.{alike_entities}
 use Rattle.archetype_store.proofs.storage.Storage.share_column.Goals as goal
 
 pub unreachable-requires : goal.unreachable-requires

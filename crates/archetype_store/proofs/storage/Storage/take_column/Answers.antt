@@ -7,8 +7,8 @@ use Rattle.archetype_store.specs.Tables.{table_at}
 use Rattle.archetype_store.proofs.TableIndex.{set_indexed_if}
 use Rattle.archetype_store.specs.Storage.{StorageValue, archetypes_of, row_cells}
 use Rattle.archetype_store.proofs.ArchetypeColumns.{home_there, no_column, column_seen, lent_stored, value_lent}
-use Rattle.archetype_store.proofs.Known.{known_kept}
-use Rattle.archetype_store.proofs.Rooms.{set_entities_if}
+use Rattle.archetype_store.proofs.RowNumbers.{known_kept}
+use Rattle.archetype_store.proofs.TableRoom.{set_entities_if}
 use Rattle.archetype_store.proofs.storage.Storage.take_column.Goals as goal
 
 pub unreachable-requires : goal.unreachable-requires

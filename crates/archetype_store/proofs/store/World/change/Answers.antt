@@ -2,7 +2,7 @@ use Rattle.std.proofs.Common.{inl, inr, sym, subst}
 use Rattle.std.specs.List.{AllByRecursion}
 use Rattle.archetype_store.specs.Changes.{CanChange}
 use Rattle.archetype_store.specs.Store.{StoreValue}
-use Rattle.archetype_store.proofs.Worlds.{outcome_either, world-changed}
+use Rattle.archetype_store.proofs.WorldShape.{outcome_either, world-changed}
 use Rattle.archetype_store.proofs.store.World.change.Goals as goal
 
 pub invariant_of-self : goal.invariant_of-self

@@ -2,7 +2,7 @@ use Rattle.std.proofs.Common.{inl, inr}
 use Rattle.kinds.specs.Components.{widths}
 use Rattle.model.specs.state.Ids.{has_ids}
 use Rattle.entity_table.specs.declared.fault.GrantFault.TheVariants as fault
-use Rattle.archetype_store.proofs.Worlds.{outcome_of, world-grant}
+use Rattle.archetype_store.proofs.WorldShape.{outcome_of, world-grant}
 use Rattle.archetype_store.proofs.store.World.grant.Goals as goal
 
 pub invariant_of-self : goal.invariant_of-self

@@ -7,7 +7,7 @@ use Rattle.entity_table.proofs.Counting.{count-length}
 use Rattle.archetype_store.specs.LivingSets.{numbers_with, first_numbers, is_bare, entity_count}
 use Rattle.archetype_store.specs.Store.{StoreValue}
 use Rattle.archetype_store.specs.View.{kinds_seen, entities_seen}
-use Rattle.archetype_store.proofs.BareCount.{AreOthers, entities_of, entities_seen_are, laid_living, more_live, others_seen}
+use Rattle.archetype_store.proofs.EmptyEntityCount.{AreOthers, entities_of, entities_seen_are, laid_living, more_live, others_seen}
 use Rattle.archetype_store.proofs.LivingSets.{living_sets}
 use Rattle.archetype_store.proofs.store.World.kind_sets.Goals as goal
 use Rattle.archetype_store.proofs.store.World.kind_sets.Goals.{After-deref}

@@ -1,6 +1,6 @@
 use Rattle.std.proofs.Common.{inl, inr}
 use Rattle.kinds.specs.Components.{widths}
-use Rattle.archetype_store.proofs.PushedSlots.{world-pushed, pushed_or_not}
+use Rattle.archetype_store.proofs.NewSlots.{world-pushed, pushed_or_not}
 use Rattle.archetype_store.proofs.store.World.push_slot.Goals as goal
 
 pub invariant_of-self : goal.invariant_of-self

@@ -1,6 +1,6 @@
 use Rattle.std.proofs.Common.{◌≤◌, ap, arith}
 use Rattle.kinds.specs.Components.{widths}
-use Rattle.archetype_store.proofs.Worlds.{world-set}
+use Rattle.archetype_store.proofs.WorldShape.{world-set}
 use Rattle.archetype_store.proofs.store.World.set_res.Goals as goal
 
 pub invariant_of-self : goal.invariant_of-self

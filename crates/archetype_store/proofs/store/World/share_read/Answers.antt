@@ -8,7 +8,7 @@ use Rattle.archetype_store.specs.Layout.{archetype_at}
 use Rattle.archetype_store.specs.Slot.{column_cells}
 use Rattle.archetype_store.specs.Store.{StoreValue}
 use Rattle.archetype_store.specs.Lending.{AreShared}
-use Rattle.archetype_store.proofs.TakenColumns.{shared_next}
+use Rattle.archetype_store.proofs.ColumnLoans.{shared_next}
 use Rattle.std.proofs.lemmas.Result.{IfOk-from_err}
 use Rattle.archetype_store.proofs.store.World.share_read.Goals as goal
 

@@ -6,7 +6,7 @@ use Rattle.model.specs.state.Ids.{has_ids}
 use Rattle.entity_table.specs.declared.fault.GrantFault.TheVariants as fault
 use Rattle.archetype_store.specs.Row.{component_of}
 use Rattle.archetype_store.specs.Store.{StoreValue}
-use Rattle.archetype_store.proofs.Worlds.{outcome_of, world-new}
+use Rattle.archetype_store.proofs.WorldShape.{outcome_of, world-new}
 use Rattle.archetype_store.proofs.store.World.spawn.Goals as goal
 
 pub invariant_of-self : goal.invariant_of-self

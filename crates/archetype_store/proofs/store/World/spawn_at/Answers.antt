@@ -1,5 +1,5 @@
 use Rattle.kinds.specs.Components.{widths}
-use Rattle.archetype_store.proofs.Worlds.{world-spawn}
+use Rattle.archetype_store.proofs.WorldShape.{world-spawn}
 use Rattle.archetype_store.proofs.store.World.spawn_at.Goals as goal
 
 pub invariant_of-self : goal.invariant_of-self

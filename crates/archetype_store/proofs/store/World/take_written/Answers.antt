@@ -8,9 +8,9 @@ use Rattle.archetype_store.specs.Layout.{archetype_at, column_home, with_home}
 use Rattle.archetype_store.specs.Slot.{column_cells}
 use Rattle.archetype_store.specs.Store.{StoreValue}
 use Rattle.archetype_store.specs.Lending.{CanComeHome, AreTaken, all_away, all_home}
-use Rattle.archetype_store.proofs.TakenColumns.{back_again, can_next, can_take, away_next, taken_next}
+use Rattle.archetype_store.proofs.ColumnLoans.{back_again, can_next, can_take, away_next, taken_next}
 use Rattle.std.proofs.lemmas.Result.{IfOk-from_err}
-use Rattle.archetype_store.proofs.Moves.{on_err_from}
+use Rattle.archetype_store.proofs.SingleRowMove.{on_err_from}
 use Rattle.archetype_store.proofs.store.World.take_written.Goals as goal
 
 pub take_column-requires : goal.take_column-requires

@@ -4,7 +4,7 @@ use Rattle.column_store.specs.Table.{TableRow}
 use Rattle.archetype_store.specs.Shapes.{numbers_from, kept_seen}
 use Rattle.archetype_store.specs.TableIndex.{peopled_from}
 use Rattle.archetype_store.specs.TableWords.{told_table}
-use Rattle.archetype_store.proofs.Layouts.{no_rows, some_rows}
+use Rattle.archetype_store.proofs.TableLayouts.{no_rows, some_rows}
 use Rattle.archetype_store.proofs.FittingTables.{number_none, number_some, numbers_all}
 use Rattle.archetype_store.proofs.TableIndex.{named_none, named_next, named_all, found_other}
 use Rattle.archetype_store.proofs.table_index.TableIndex.note_rows.Goals as goal

@@ -3,7 +3,7 @@ use Rattle.std.proofs.lemmas.List.{get_or_default}
 use Rattle.model.specs.steps.Schedule.{params_of}
 use Rattle.body.specs.Keeps.{KeepsWithin}
 use Rattle.engine.specs.Meanings.{body_at, meaning_of}
-use Rattle.engine.proofs.Placing.{meaning-there}
+use Rattle.engine.proofs.JobsOut.{meaning-there}
 use Rattle.engine.proofs.bodies.Bodies.is_fit.Goals as goal
 
 pub returns-in-Some-clause-keeps : goal.returns-in-Some-clause-keeps

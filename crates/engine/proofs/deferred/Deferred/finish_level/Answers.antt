@@ -7,10 +7,10 @@ use Rattle.command_queue.specs.Commands.{commands_of}
 use Rattle.entity_table.specs.Ids.{IsGranted, AreApart}
 use Rattle.body.specs.Steps.{StateValue}
 use Rattle.engine.specs.Deferred.{DeferredValue, IsNothingDeferred, grants_of}
-use Rattle.engine.proofs.Syncing.{without_systems, level_is, level_known, level_once, level_granted, level_apart}
-use Rattle.engine.proofs.Commanded.{nothing_there, quiet_synced}
-use Rattle.engine.proofs.Idle.{idle_gone, idle_synced}
-use Rattle.engine.proofs.Freeing.{Synced, emptied_items, sync_is, sync_in_hand}
+use Rattle.engine.proofs.SyncPoint.{without_systems, level_is, level_known, level_once, level_granted, level_apart}
+use Rattle.engine.proofs.LevelCommands.{nothing_there, quiet_synced}
+use Rattle.engine.proofs.EmptySyncPoint.{idle_gone, idle_synced}
+use Rattle.engine.proofs.SyncPointState.{Synced, emptied_items, sync_is, sync_in_hand}
 use Rattle.engine.proofs.deferred.Deferred.finish_level.Goals as goal
 
 pub have_commands-commanded-requires : goal.have_commands-commanded-requires

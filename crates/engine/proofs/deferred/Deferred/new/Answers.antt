@@ -1,7 +1,7 @@
 use Rattle.std.specs.Prelude.{All}
 use Rattle.engine.proofs.LevelGrants.{levels_known}
 use Rattle.std.proofs.Common.{◌<◌, [], sym, subst, ◌∙◌, ap, get_or, arith, length, length-append}
-use Rattle.engine.proofs.Emptying.{nothing_more}
+use Rattle.engine.proofs.EmptyLists.{nothing_more}
 use Rattle.engine.proofs.deferred.Deferred.new.Goals as goal
 
 pub spawners_of-requires : goal.spawners_of-requires

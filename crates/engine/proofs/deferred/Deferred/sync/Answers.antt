@@ -2,7 +2,7 @@ use Rattle.std.proofs.Common.{Err, ◌+◌, sym, ap, ◌∙◌, subst, add-one}
 use Rattle.archetype_store.specs.Layout.{AreAllHome}
 use Rattle.model.specs.runs.RunState.{RunState}
 use Rattle.model.specs.state.KindSets.{kind_sets_of}
-use Rattle.engine.proofs.SameKindSets.{kind_sets-after_grant}
+use Rattle.engine.proofs.SameArchetypes.{kind_sets-after_grant}
 use Rattle.engine.specs.Deferred.{run_with}
 use Rattle.engine.specs.Stops.{CannotSync}
 use Rattle.engine.proofs.LevelGrants.{can_sync_is, fresh_after, no_ids_above, synced_is}

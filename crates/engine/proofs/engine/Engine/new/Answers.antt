@@ -4,7 +4,7 @@ use Rattle.model.specs.state.State.{State as ModelState}
 use Rattle.engine.specs.declared.faults.NewFault.{NewFault}
 use Rattle.engine.specs.declared.faults.NewFault.TheVariants.{Count, Misfit}
 use Rattle.engine.specs.Meanings.{meanings, AllKeepWithin, IsFirstMisfit, Miscounts, Suits}
-use Rattle.engine.proofs.AtHome.{suits_counts, suits_fits}
+use Rattle.engine.proofs.BodiesAtHome.{suits_counts, suits_fits}
 use Rattle.engine.proofs.engine.Engine.new.Goals as goal
 
 -- a fault is the same whatever else might have been answered

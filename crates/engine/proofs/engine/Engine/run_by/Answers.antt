@@ -11,7 +11,7 @@ use Rattle.engine.specs.EngineValue.{EngineValue}
 use Rattle.engine.specs.Meanings.{meanings, AllKeepWithin, AreFit, Suits}
 use Rattle.engine.specs.Stops.{AreStopped, StopsAs}
 use Rattle.engine.specs.Next.{IsAtRest}
-use Rattle.engine.proofs.Agreeing.{engine_agrees}
+use Rattle.engine.proofs.RunAgreement.{engine_agrees}
 use Rattle.engine.proofs.Stops.{lost_told, one_stop, stops_told, stops_up, told_unspoiled}
 use Rattle.engine.proofs.engine.Engine.run_by.Goals as goal
 

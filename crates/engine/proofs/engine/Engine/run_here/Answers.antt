@@ -9,7 +9,7 @@ use Rattle.engine.specs.Deferred.{IsDeferredFor}
 use Rattle.engine.specs.EngineValue.{EngineValue}
 use Rattle.engine.specs.Meanings.{meanings, AllKeepWithin, AreFit, Suits}
 use Rattle.engine.specs.Stops.{AreStopped, StopsAs}
-use Rattle.engine.proofs.Agreeing.{engine_agrees}
+use Rattle.engine.proofs.RunAgreement.{engine_agrees}
 use Rattle.engine.proofs.Stops.{stops_told, stops_up, told_unspoiled}
 use Rattle.engine.proofs.engine.Engine.run_here.Goals as goal
 

@@ -2,7 +2,7 @@ use denote.Param.Send.{sendable}
 use Rattle.std.proofs.Common.{sym, subst, ◌∙◌}
 use Rattle.engine.specs.Deferred.{IsDeferredFor}
 use Rattle.engine.specs.Meanings.{meanings}
-use Rattle.engine.proofs.Kept.{keep_again, suits_again, worker_there}
+use Rattle.engine.proofs.RunKept.{keep_again, suits_again, worker_there}
 use Rattle.engine.proofs.engine.Engine.run_kept.Goals as goal
 
 pub put_back-requires-clause-suits : goal.put_back-requires-clause-suits

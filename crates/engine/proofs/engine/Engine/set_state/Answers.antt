@@ -3,7 +3,7 @@ use Rattle.model.specs.state.State.{State}
 use Rattle.model.specs.steps.Schedule.{Schedule}
 use Rattle.engine.specs.EngineValue.{EngineValue}
 use Rattle.engine.specs.Meanings.{meanings, AllKeepWithin, AreFit, HasMemories, LacksMemories}
-use Rattle.engine.proofs.Beginning.{lacks-none}
+use Rattle.engine.proofs.FirstState.{lacks-none}
 use Rattle.engine.proofs.engine.Engine.set_state.Goals as goal
 
 pub returns-then-lacks_memories-clause-count : goal.returns-then-lacks_memories-clause-count

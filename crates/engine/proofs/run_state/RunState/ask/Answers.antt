@@ -3,7 +3,7 @@ use Rattle.model.specs.access.Condition.{Condition, holds}
 use Rattle.model.specs.steps.Schedule.{ScheduledCondition}
 use Rattle.model.specs.runs.RunState.{has_tick, memory_of_condition}
 use Rattle.engine.proofs.Stops.{has_one, tells_no_tick, tick_met}
-use Rattle.engine.proofs.Weaving.{answer_alike, answer_woven}
+use Rattle.engine.proofs.InterleavedSteps.{answer_alike, answer_woven}
 use Rattle.engine.proofs.run_state.RunState.ask.Goals as goal
 
 -- the answer is what the condition means on the state

@@ -2,10 +2,10 @@ use Rattle.std.proofs.Common.{◌≡◌, ◌↔◌, Bool, true, false, Err, refl
 use Rattle.model.specs.runs.RunState.{RunState, after_grant, between, has_ids_for_level, has_tick, opening}
 use Rattle.model.specs.state.KindSets.{kind_sets_of}
 use Rattle.body.specs.Steps.{StateValue}
-use Rattle.engine.proofs.SameKindSets.{kind_sets-after_grant}
+use Rattle.engine.proofs.SameArchetypes.{kind_sets-after_grant}
 use Rattle.engine.specs.Deferred.{run_with}
 use Rattle.engine.specs.Stops.{CannotOpen}
-use Rattle.engine.proofs.InHand.{run_with_nothing}
+use Rattle.engine.proofs.IdsInHand.{run_with_nothing}
 use Rattle.engine.proofs.LevelGrants.{ids_to_open, no_ids_to_open, opened_is}
 use Rattle.engine.proofs.Stops.{grant_stops, one_grant, open_met, open_ungranted, opens_no_tick, opens_ungranted}
 use Rattle.engine.proofs.run_state.RunState.open.Goals as goal

@@ -14,7 +14,7 @@ use Rattle.body.specs.Keeps.{CanBeShown}
 use Rattle.model.specs.steps.Schedule.{params_of}
 use Rattle.engine.specs.Deferred.{grants_at}
 use Rattle.engine.proofs.Stops.{has_one, tells_no_tick, tick_met}
-use Rattle.engine.proofs.Starting.{can_be_shown, registers_at}
+use Rattle.engine.proofs.SystemStart.{can_be_shown, registers_at}
 use Rattle.engine.proofs.run_state.RunState.show.Goals as goal
 
 pub open-requires-clause-apart : goal.open-requires-clause-apart

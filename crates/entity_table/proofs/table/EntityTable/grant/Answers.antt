@@ -3,7 +3,7 @@ use Rattle.model.specs.state.State.{most_indices}
 use Rattle.model.specs.state.Ids.{vacant_indices, has_ids, granted_ids, grant}
 use Rattle.entity_table.proofs.Grants.{has_ids-false, has_ids-true, granted-each, granted-apart, length-grant}
 use Rattle.entity_table.specs.Ids.{living_count}
-use Rattle.entity_table.proofs.Keeping.{book-grant}
+use Rattle.entity_table.proofs.BookShape.{book-grant}
 use Rattle.entity_table.proofs.Counting.{count-grant}
 use Rattle.entity_table.proofs.Turns.{no_other_fault}
 use Rattle.entity_table.proofs.table.EntityTable.grant.Goals as goal

@@ -5,7 +5,7 @@ use Rattle.entity_table.proofs.Frees.{length-vacant_from}
 use Rattle.entity_table.proofs.Grants.{has_ids-false, has_ids-true, length-grant}
 use Rattle.entity_table.proofs.Levels.{grant_each-is, has_ids_for_each-is}
 use Rattle.entity_table.specs.Ids.{living_count}
-use Rattle.entity_table.proofs.Keeping.{book-grant}
+use Rattle.entity_table.proofs.BookShape.{book-grant}
 use Rattle.entity_table.proofs.Counting.{count-grant}
 use Rattle.entity_table.proofs.Turns.{no_other_fault}
 use Rattle.entity_table.proofs.table.EntityTable.grant_level.Goals as goal

@@ -6,7 +6,7 @@ use Rattle.model.specs.state.Commands.{spawned}
 use Rattle.entity_table.specs.Ids.{slot_at, living_count}
 use Rattle.entity_table.proofs.Counting.{count-length, count-more}
 use Rattle.entity_table.proofs.Edits.{set-written}
-use Rattle.entity_table.proofs.Keeping.{kept-spawned, spawned-granted, granted-within}
+use Rattle.entity_table.proofs.BookShape.{kept-spawned, spawned-granted, granted-within}
 use Rattle.entity_table.proofs.Releases.{granted-lives}
 use Rattle.entity_table.proofs.table.EntityTable.spawn_at.Goals as goal
 use Rattle.entity_table.proofs.table.EntityTable.spawn_at.Goals.{After-spawn}

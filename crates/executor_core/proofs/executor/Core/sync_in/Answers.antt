@@ -3,7 +3,7 @@ use Rattle.model.specs.declared.steps.Step.TheVariants.{Sync}
 use Rattle.model.specs.steps.Schedule.{recording}
 use Rattle.executor_core.proofs.Telling.{tells_may}
 use Rattle.executor_core.specs.Stands.{Stand}
-use Rattle.executor_core.proofs.Keeping.{stands_renewed}
+use Rattle.executor_core.proofs.AcceptedSteps.{stands_renewed}
 use Rattle.executor_core.proofs.executor.Core.sync_in.Goals as goal
 
 pub returns-in-Err-clause-accepts : goal.returns-in-Err-clause-accepts

@@ -2,7 +2,7 @@ use Rattle.std.proofs.Common.{Some, Err}
 use Rattle.model.specs.declared.steps.Step.TheVariants.{Sync}
 use Rattle.model.specs.steps.Schedule.{recording}
 use Rattle.executor_core.proofs.Telling.{tells_may}
-use Rattle.executor_core.proofs.Keeping.{stands_same}
+use Rattle.executor_core.proofs.AcceptedSteps.{stands_same}
 use Rattle.executor_core.proofs.executor.Core.sync_same.Goals as goal
 
 pub returns-in-Err-clause-accepts : goal.returns-in-Err-clause-accepts

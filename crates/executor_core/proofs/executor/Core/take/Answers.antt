@@ -4,7 +4,7 @@ use Rattle.model.specs.declared.steps.Step.{Step}
 use Rattle.model.specs.steps.Schedule.{recording}
 use Rattle.model.specs.steps.Lawful.{May}
 use Rattle.executor_core.specs.Stands.{Stand, IsPassed, IsPlainStep, Stands}
-use Rattle.executor_core.proofs.Keeping.{stands_ask, stands_start, stands_skip, skip_changes, stands_finish, stands_sync}
+use Rattle.executor_core.proofs.AcceptedSteps.{stands_ask, stands_start, stands_skip, skip_changes, stands_finish, stands_sync}
 use Rattle.executor_core.proofs.executor.Core.take.Goals as goal
 
 pub returns-in-Cond-clause-stands : goal.returns-in-Cond-clause-stands

@@ -1,5 +1,5 @@
 use Rattle.body.proofs.Keeps.{keeps_untouched}
-use Rattle.calls.proofs.Keeping.{answered_keeps, refused_keeps, tallied_keeps}
+use Rattle.calls.proofs.BodiesWithin.{answered_keeps, refused_keeps, tallied_keeps}
 use Rattle.calls.proofs.tests.bodies.TestBodyBody.fits.Goals as goal
 
 pub returns-in-Answer-clause-keeps : goal.returns-in-Answer-clause-keeps

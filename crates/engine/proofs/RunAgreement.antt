@@ -14,7 +14,7 @@ use Rattle.kinds.specs.Components.{widths}
 use Rattle.body.specs.Steps.{HasShape, IsInTime}
 use Rattle.engine.specs.EngineValue.{EngineValue}
 use Rattle.engine.specs.Meanings.{meanings, AllKeepWithin, HasMemories}
-use Rattle.engine.proofs.Keeping.{bodies_keep}
+use Rattle.engine.proofs.BodiesWithin.{bodies_keep}
 
 -- ---- memories
 

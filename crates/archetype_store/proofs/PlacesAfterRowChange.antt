@@ -13,7 +13,7 @@ use Rattle.column_store.proofs.Apart.{same_entity}
 use Rattle.archetype_store.specs.declared.locations.EntityLocation.{EntityLocation}
 use Rattle.archetype_store.specs.Tables.{kinds_at, held_at, row_or_none, shape_of, AreShaped, AreUnlike}
 use Rattle.archetype_store.specs.Storage.{archetypes_of, row_of, holder_of, holder_if, place_of, is_place, row_in, holder_in, IsHolder, IsOfKinds, AreArchetypes, HasRow}
-use Rattle.archetype_store.proofs.Held.{shape_at, held_within}
+use Rattle.archetype_store.proofs.TablesAfterRowChange.{shape_at, held_within}
 
 -- ---- maps by number
 

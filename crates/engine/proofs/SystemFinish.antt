@@ -29,9 +29,9 @@ use Rattle.engine.specs.Jobs.{woven, AreKept, InHand, IsJob, Placed}
 use Rattle.engine.specs.Deferred.{DeferredValue, grants_at, with_commands}
 use Rattle.engine.specs.Meanings.{AllKeepWithin}
 use Rattle.engine.specs.Stops.{IsNotLaid}
-use Rattle.engine.proofs.InHand.{AreAlike, alike_after, in_hand_alike, in_hand_put}
-use Rattle.engine.proofs.Placing.{around, IsOutcomeOf, IsReturned, lent-there, refused_there, unsent_there, finish_there, kept_finish, placed_finish}
-use Rattle.engine.proofs.Weaving.{numbers_of}
+use Rattle.engine.proofs.IdsInHand.{AreAlike, alike_after, in_hand_alike, in_hand_put}
+use Rattle.engine.proofs.JobsOut.{around, IsOutcomeOf, IsReturned, lent-there, refused_there, unsent_there, finish_there, kept_finish, placed_finish}
+use Rattle.engine.proofs.InterleavedSteps.{numbers_of}
 
 -- of jobs that were out one came back, and its body has run
 pub record IsBack {B : Type 0} (meaning : B → Params → BodyMeaning) (fits : B → Params → Bool) (out later_out : List (JobOut B)) (number system : ℕ) (body : B) (after : Seen) (answer : Result (Unit {0}) BodyFault) : Type 0 where

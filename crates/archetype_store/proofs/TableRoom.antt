@@ -4,7 +4,7 @@ use Rattle.std.proofs.lemmas.Bool.{cases_eq}
 use Rattle.std.proofs.lemmas.List.{get_or-set_same, get_or-set_other}
 use Rattle.column_store.specs.Table.{TableRow, TableValue, empty_table}
 use Rattle.archetype_store.specs.Tables.{table_at, entities_at, with_room, AreAllAlike}
-use Rattle.archetype_store.proofs.Standings.{alike_set, alike_same}
+use Rattle.archetype_store.proofs.ColumnStandings.{alike_set, alike_same}
 
 pub roomed_alike : (T : List TableValue) (t room : ℕ) → AreAllAlike T (set T t (with_room room (table_at T t)))
 roomed_alike T t room = alike_set T t (with_room room (table_at T t)) (record { kinds = refl; homes = refl; rows = refl })

@@ -14,7 +14,7 @@ use Rattle.column_store.specs.Cells.{stamped_number}
 use Rattle.column_store.specs.Kinds.{in_order, AreBelow}
 use Rattle.column_store.specs.Table.{TableValue, empty_table}
 use Rattle.archetype_store.specs.Tables.{AreShaped, AreUnlike, IsGrown}
-use Rattle.archetype_store.proofs.Held.{grown_more}
+use Rattle.archetype_store.proofs.TablesAfterRowChange.{grown_more}
 use Rattle.archetype_store.proofs.ArchetypeColumns.{not_head as not_equal_from}
 
 -- ---- kinds in order

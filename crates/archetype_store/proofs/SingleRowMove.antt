@@ -9,8 +9,8 @@ use Rattle.column_store.specs.Table.{TableValue}
 use Rattle.archetype_store.specs.declared.locations.EntityLocation.{EntityLocation}
 use Rattle.archetype_store.specs.Tables.{kinds_at, held_at, row_or_none, IsHeldNow, IsGrown}
 use Rattle.archetype_store.specs.Storage.{StorageValue, archetypes_of, row_of, holder_of, holder_if, place_of, row_in, holder_in, IsHolder, IsOfKinds, AreAlike, AreArchetypes, HasRow}
-use Rattle.archetype_store.proofs.Held.{held_within}
-use Rattle.archetype_store.proofs.Laid.{with_at_same, with_at_apart, row_seen, holder_seen, IsMoved, nowhere, not_elsewhere, somewhere, kinds_there, row_there}
+use Rattle.archetype_store.proofs.TablesAfterRowChange.{held_within}
+use Rattle.archetype_store.proofs.PlacesAfterRowChange.{with_at_same, with_at_apart, row_seen, holder_seen, IsMoved, nowhere, not_elsewhere, somewhere, kinds_there, row_there}
 
 -- ---- places
 

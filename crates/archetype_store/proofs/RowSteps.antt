@@ -10,9 +10,9 @@ use Rattle.archetype_store.specs.declared.locations.EntityLocation.{EntityLocati
 use Rattle.archetype_store.specs.Row.{component_of}
 use Rattle.archetype_store.specs.Tables.{kinds_at, held_at, row_or_none, IsHeldNow}
 use Rattle.archetype_store.specs.Storage.{archetypes_of, place_of, row_in, holder_in, IsHolder, AreArchetypes, HasRow}
-use Rattle.archetype_store.proofs.Laid.{moved_whole, moved_row, somewhere, kinds_there}
-use Rattle.archetype_store.proofs.Moves.{moved_joined, moved_cleared, moved_written, row_placed}
-use Rattle.archetype_store.proofs.Known.{placed_within}
+use Rattle.archetype_store.proofs.PlacesAfterRowChange.{moved_whole, moved_row, somewhere, kinds_there}
+use Rattle.archetype_store.proofs.SingleRowMove.{moved_joined, moved_cleared, moved_written, row_placed}
+use Rattle.archetype_store.proofs.RowNumbers.{placed_within}
 use Rattle.archetype_store.proofs.RowEdits.{kinds-components}
 
 -- ---- a row that is laid

@@ -17,12 +17,12 @@ use Rattle.model.proofs.order.Extending.{free-recording, meets-recording, sets-e
 use Rattle.model.proofs.serial.Recording.{answers-recording, can_sync-recording, interleaved-recording, sync-recording}
 use Rattle.executor_core.specs.Stands.{AreListed}
 use Rattle.executor_core.specs.Traces.{with_list}
-use Rattle.executor_core.proofs.Keeping.{recorded_last}
+use Rattle.executor_core.proofs.AcceptedSteps.{recorded_last}
 use Rattle.worker_pool.specs.JobOut.{JobOut}
 use Rattle.engine.specs.Deferred.{DeferredValue, run_with}
 use Rattle.engine.specs.Jobs.{woven}
 use Rattle.engine.specs.Stage.{Stage, IsTake}
-use Rattle.engine.proofs.Staging.{stage_sync}
+use Rattle.engine.proofs.RunStages.{stage_sync}
 
 -- ---- where what was recorded last is the same
 

@@ -14,7 +14,7 @@ use Rattle.model.proofs.serial.Engine.{release-none, synced_state}
 use Rattle.command_queue.specs.Commands.{commands_of}
 use Rattle.body.specs.Steps.{StateValue, at_clock, target_in, with_slots_in, with_target}
 use Rattle.engine.specs.Deferred.{DeferredValue, emptied, grants_of, run_with, IsDeferredFor, AreInHand}
-use Rattle.engine.proofs.Syncing.{release_joined, in_hand_synced, length-emptied, without_systems, run_synced}
+use Rattle.engine.proofs.SyncPoint.{release_joined, in_hand_synced, length-emptied, without_systems, run_synced}
 
 -- a state with ids freed
 abbrev pub freed_in : List Entity → StateValue → StateValue

@@ -32,7 +32,7 @@ use Rattle.engine.specs.Deferred.{DeferredValue, run_with}
 use Rattle.body.specs.Steps.{asked_at, ticked}
 use Rattle.engine.specs.Stage.{Stage, IsTake}
 use Rattle.engine.specs.Stops.{CannotOpen, CannotSync, LacksTick}
-use Rattle.engine.proofs.Weaving.{ask_woven, sync_woven}
+use Rattle.engine.proofs.InterleavedSteps.{ask_woven, sync_woven}
 
 -- ---- numbers that run
 

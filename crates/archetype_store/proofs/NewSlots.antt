@@ -14,7 +14,7 @@ use Rattle.entity_table.specs.Rows.{with_rows}
 use Rattle.entity_table.specs.declared.status.Status.{Status}
 use Rattle.entity_table.specs.Status.{empty_slot}
 use Rattle.archetype_store.specs.Store.{with_slots}
-use Rattle.archetype_store.proofs.Worlds.{world-slots}
+use Rattle.archetype_store.proofs.WorldShape.{world-slots}
 
 -- who lives lives on
 pub alive-pushed : (slots : List Slot) (s : Slot) (e : Entity) → is_alive slots e ≡ true → is_alive (slots ++ s ∷ []) e ≡ true

@@ -9,12 +9,12 @@ use Rattle.archetype_store.specs.Storage.{archetypes_of, place_of, AreAlike, Are
 use Rattle.archetype_store.specs.RowMoves.{IsPlanned}
 use Rattle.archetype_store.specs.RowNumbers.{AreRowsKnown}
 use Rattle.archetype_store.specs.Tables.{shape_of, AreOwned, AreAllAlike, IsGrown}
-use Rattle.archetype_store.proofs.Changed.{planned_alike}
-use Rattle.archetype_store.proofs.Known.{known_kept}
-use Rattle.archetype_store.proofs.Moves.{grown_whole, alike_trans}
+use Rattle.archetype_store.proofs.TableGrowth.{planned_alike}
+use Rattle.archetype_store.proofs.RowNumbers.{known_kept}
+use Rattle.archetype_store.proofs.SingleRowMove.{grown_whole, alike_trans}
 use Rattle.archetype_store.proofs.RowMoves.{planned_rest}
-use Rattle.archetype_store.proofs.Rooms.{alike_entities}
-use Rattle.archetype_store.proofs.Standings.{owned_kept, alike_value, value_alike, alike_whole, reached_whole}
+use Rattle.archetype_store.proofs.TableRoom.{alike_entities}
+use Rattle.archetype_store.proofs.ColumnStandings.{owned_kept, alike_value, value_alike, alike_whole, reached_whole}
 
 -- what is planned doesn't ask for rooms
 pub planned_shapes : (T T' : List TableValue) (P : List (Option EntityLocation)) (ms : List RowMove) → map shape_of T' ≡ map shape_of T → AllByRecursion (IsPlanned T P) ms → AllByRecursion (IsPlanned T' P) ms

@@ -14,7 +14,7 @@ use Rattle.worker_pool.specs.JobOut.{JobOut}
 use Rattle.engine.specs.Deferred.{DeferredValue}
 use Rattle.engine.specs.Jobs.{woven}
 use Rattle.engine.specs.Stage.{Stage}
-use Rattle.engine.proofs.SameKindSets.{sets_last}
+use Rattle.engine.proofs.SameArchetypes.{sets_last}
 use Rattle.engine.specs.Latest.{IsFollowing}
 
 -- a core stands for the kind sets recorded last

@@ -10,8 +10,8 @@ use Rattle.model.specs.shown.Outcome.{Command}
 use Rattle.model.proofs.serial.Engine.{synced_state}
 use Rattle.command_queue.specs.Commands.{commands_of}
 use Rattle.body.specs.Steps.{StateValue}
-use Rattle.engine.proofs.Freeing.{Synced, state_synced}
-use Rattle.engine.proofs.SameKindSets.{kind_sets-release}
+use Rattle.engine.proofs.SyncPointState.{Synced, state_synced}
+use Rattle.engine.proofs.SameArchetypes.{kind_sets-release}
 
 -- the commands of the systems from this one on
 pub next_commands : (commands : List (List Command)) (level : List ℕ) (i d : ℕ) → i < length level →

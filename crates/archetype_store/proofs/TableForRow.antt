@@ -4,7 +4,7 @@ use Rattle.column_store.specs.Table.{TableValue}
 use Rattle.archetype_store.specs.declared.locations.EntityLocation.{EntityLocation}
 use Rattle.archetype_store.specs.RowNumbers.{AreRowsKnown}
 use Rattle.archetype_store.specs.Tables.{IsGrown}
-use Rattle.archetype_store.proofs.Known.{known_kept}
+use Rattle.archetype_store.proofs.RowNumbers.{known_kept}
 
 -- nothing else than one more table
 pub grown_known : (T T1 : List TableValue) (P : List (Option EntityLocation)) (N : List ℕ) → IsGrown T T1 → AreRowsKnown T P N → AreRowsKnown T1 P N

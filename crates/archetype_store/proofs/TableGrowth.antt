@@ -8,7 +8,7 @@ use Rattle.archetype_store.specs.declared.row_moves.RowMove.{RowMove}
 use Rattle.archetype_store.specs.Tables.{kinds_at, AreShaped, AreUnlike, IsGrown}
 use Rattle.archetype_store.specs.Storage.{StorageValue, archetypes_of, place_of, holder_in, IsHolder, AreAlike, HaveRows, row_changed, holder_changed}
 use Rattle.archetype_store.specs.RowMoves.{IsPlanned}
-use Rattle.archetype_store.proofs.Moves.{alike_trans, grown_alike, reached_alike}
+use Rattle.archetype_store.proofs.SingleRowMove.{alike_trans, grown_alike, reached_alike}
 
 -- tables as they are
 pub grown_self : (A : List TableValue) → AreShaped A → AreUnlike A → IsGrown A A

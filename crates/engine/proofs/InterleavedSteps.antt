@@ -18,7 +18,7 @@ use Rattle.model.proofs.serial.Engine.{started_run, memories_started, shown_with
 use Rattle.body.specs.Seen.{Seen}
 use Rattle.body.specs.Steps.{asked_at, laid, noted, ticked}
 use Rattle.engine.specs.Deferred.{DeferredValue, commands_at, grants_at, run_with, with_commands}
-use Rattle.engine.proofs.InHand.{run_with_commands}
+use Rattle.engine.proofs.IdsInHand.{run_with_commands}
 
 -- a run of a state with what is deferred and with these running systems
 abbrev pub over : DeferredValue → State → List RunningSystem → Interleaved

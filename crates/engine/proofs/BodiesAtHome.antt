@@ -4,7 +4,7 @@ use Rattle.model.specs.access.Access.{Params}
 use Rattle.model.specs.state.State.{State}
 use Rattle.model.specs.steps.Schedule.{Schedule}
 use Rattle.engine.specs.Meanings.{body_at, fits_at, IsFirstMisfit, Miscounts, Suits}
-use Rattle.engine.proofs.Beginning.{counts_right}
+use Rattle.engine.proofs.FirstState.{counts_right}
 
 -- the body at a place
 pub at_body : {B : Type 0} (bodies : List B) (n : ℕ) (d : B) → n < length bodies → body_at (map Some bodies) n ≡ Some (get_or bodies n d)

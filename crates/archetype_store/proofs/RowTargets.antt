@@ -9,7 +9,7 @@ use Rattle.archetype_store.specs.declared.row_moves.RowMove.{RowMove}
 use Rattle.archetype_store.specs.Storage.{place_of}
 use Rattle.archetype_store.specs.RowMoves.{other_table, arrives_in, stays_there, stays_in, is_table, one_if}
 use Rattle.archetype_store.specs.Tables.{room_at, is_in}
-use Rattle.archetype_store.proofs.Laid.{with_at_apart}
+use Rattle.archetype_store.proofs.PlacesAfterRowChange.{with_at_apart}
 
 here_from : (o : Option EntityLocation) (to : ℕ) → other_table o (Some to) ≡ None → (p : EntityLocation) × (o ≡ Some p) × (p.table ≡ to)
 here_from None to h = absurd (cc)

@@ -16,7 +16,7 @@ use Rattle.worker_pool.specs.JobOut.{JobOut}
 use Rattle.engine.specs.Jobs.{InHand}
 use Rattle.engine.specs.Deferred.{DeferredValue, AreInHand, grants_at}
 use Rattle.engine.specs.Meanings.{HasMemories}
-use Rattle.engine.proofs.Placing.{IsHanded}
+use Rattle.engine.proofs.JobsOut.{IsHanded}
 
 pub registers_at : (clock : ℕ) (ms : List Memory) (n : ℕ) → n < length ms → IsInTime clock ms → length (get_or ms n no_memory).registers ≡ register_count
 registers_at clock [] n known h = absurd (omega (arith, known))

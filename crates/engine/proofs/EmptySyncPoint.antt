@@ -7,8 +7,8 @@ use Rattle.model.specs.runs.RunState.{next_tick}
 use Rattle.command_queue.specs.Commands.{commands_of}
 use Rattle.body.specs.Steps.{StateValue, at_clock}
 use Rattle.engine.specs.Deferred.{DeferredValue, IsNothingDeferred, emptied, grants_of}
-use Rattle.engine.proofs.Freeing.{Synced, freed_none}
-use Rattle.engine.proofs.Syncing.{without_systems}
+use Rattle.engine.proofs.SyncPointState.{Synced, freed_none}
+use Rattle.engine.proofs.SyncPoint.{without_systems}
 
 -- nothing of any system is nothing of these
 nothing_of : {A : Type 0} (lists : List (List A)) → ((n : ℕ) → get_or lists n [] ≡ []) → (ns : List ℕ) → flat_map (λ n. get_or lists n []) ns ≡ []

@@ -21,7 +21,7 @@ use Rattle.archetype_store.specs.Layout.{archetype_of, layout_of}
 use Rattle.archetype_store.specs.Storage.{place_of, is_place, AreArchetypes}
 use Rattle.archetype_store.specs.RowNumbers.{number_of_row, AreRowsKnown}
 use Rattle.archetype_store.specs.Tables.{table_at, held_at, entities_at, entity_in_row, IsOneTable}
-use Rattle.archetype_store.proofs.Held.{row_at}
+use Rattle.archetype_store.proofs.TablesAfterRowChange.{row_at}
 
 -- ---- places
 

@@ -9,11 +9,11 @@ use Rattle.archetype_store.specs.declared.table_index.TableIndex.{TableIndex}
 use Rattle.archetype_store.specs.TableIndex.{IsIndexed}
 use Rattle.archetype_store.specs.Tables.{AreHome, AreOwned, AreAllAlike}
 use Rattle.archetype_store.specs.Storage.{archetypes_of}
-use Rattle.archetype_store.proofs.Standings.{owned_all, alike_value, alike_whole, owned_stored}
+use Rattle.archetype_store.proofs.ColumnStandings.{owned_all, alike_value, alike_whole, owned_stored}
 use Rattle.archetype_store.proofs.TableIndex.{alike_indexed}
 use Rattle.archetype_store.specs.Whole.{IsWhole}
-use Rattle.archetype_store.proofs.Known.{known_kept}
-use Rattle.archetype_store.proofs.Rooms.{alike_entities}
+use Rattle.archetype_store.proofs.RowNumbers.{known_kept}
+use Rattle.archetype_store.proofs.TableRoom.{alike_entities}
 
 homes_owned : (ss : List Standing) → list_all is_home ss ≡ true → map is_home (map (λ (s : Standing). Owned) ss) ≡ map is_home ss
 homes_owned [] h = refl

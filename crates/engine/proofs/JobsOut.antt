@@ -37,8 +37,8 @@ use Rattle.worker_pool.specs.JobOut.{JobOut}
 use Rattle.engine.specs.Deferred.{DeferredValue, grants_at, run_with, with_commands}
 use Rattle.engine.specs.Meanings.{meaning_of, meanings_of, meanings, body_at, body_fits, AreFit, HasMemories, Suits}
 use Rattle.engine.specs.Jobs.{running_of, systems_of, held_by, woven, AreDistinct, AreKept, HasBody, IsJob, IsPlaced, Placed}
-use Rattle.engine.proofs.Remembering.{memories_at, memories_noted, memories_laid}
-use Rattle.engine.proofs.Weaving.{IsAnswered, numbers_of, start_woven, finish_woven, unsent_woven}
+use Rattle.engine.proofs.StateMemories.{memories_at, memories_noted, memories_laid}
+use Rattle.engine.proofs.InterleavedSteps.{IsAnswered, numbers_of, start_woven, finish_woven, unsent_woven}
 use Rattle.model.proofs.lists.Places.{has-append, each-where}
 
 -- ---- one of a list

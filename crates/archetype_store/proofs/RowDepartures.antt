@@ -10,7 +10,7 @@ use Rattle.archetype_store.specs.Storage.{StorageValue, row_of, holder_of, place
 use Rattle.archetype_store.specs.Changes.{components_left, AreOfOtherIndices}
 use Rattle.archetype_store.specs.RowMoves.{change_of, other_table, arrives_in, stays_there, stays_in, is_table, one_if, coming_count, HaveRoom, IsPlanned, AreAlikeBut, AreAlikeBefore}
 use Rattle.archetype_store.specs.Tables.{room_at, shape_of}
-use Rattle.archetype_store.proofs.Laid.{kinds_kept}
+use Rattle.archetype_store.proofs.PlacesAfterRowChange.{kinds_kept}
 use Rattle.archetype_store.proofs.RowMoves.{index_flipped, as_many_tables}
 
 -- ---- one row

@@ -11,9 +11,9 @@ use Rattle.model.specs.runs.RunState.{body_of, memory_of_system}
 use Rattle.kinds.specs.Components.{widths}
 use Rattle.body.specs.Keeps.{KeepsWithin}
 use Rattle.engine.specs.Meanings.{meaning_of, meanings, AllKeepWithin}
-use Rattle.engine.proofs.AtHome.{at_body}
-use Rattle.engine.proofs.Placing.{meaning-there}
-use Rattle.engine.proofs.Starting.{can_be_shown}
+use Rattle.engine.proofs.BodiesAtHome.{at_body}
+use Rattle.engine.proofs.JobsOut.{meaning-there}
+use Rattle.engine.proofs.SystemStart.{can_be_shown}
 
 -- what the body of a system means, where each is at home
 pub meaning-at : {B : Type 0} (meaning : B → Params → BodyMeaning) (s : Schedule) (bodies : List B) (n : ℕ) (d : B) → length bodies ≡ length s.systems → n < length s.systems →
