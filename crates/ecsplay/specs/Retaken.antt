@@ -1,9 +1,7 @@
 -- Records of sessions of program files: taken again, begun, and what is told where they are not.
-use Rattle.std.specs.Prelude.{ℕ, ◌≡◌, ◌×◌, ◌⊎◌, Bool, if◌then◌else◌, List, [], ◌∷◌, ◌++◌, codes, map, Option, Some, IfSome}
+use Rattle.std.specs.Prelude.{ℕ, ◌≡◌, ◌⊎◌, Bool, if◌then◌else◌, List, [], ◌∷◌, ◌++◌, codes, map, Option, Some, IfSome}
 use Rattle.std.specs.Io.KnownBytes.{Appends}
 use Rattle.hex.specs.Hex.{encode_lower}
-use Rattle.engine.specs.Meanings.{meanings}
-use Rattle.model.specs.shown.Outcome.{BodyMeaning}
 use Rattle.program.specs.Hosted.{AreScriptsIn}
 use Rattle.program.specs.Served.{Tells}
 use Rattle.program.specs.Setup.{meanings_of_scripts, script_means}

@@ -1,15 +1,15 @@
 // Records of sessions: how one is begun, and what is told of one that is taken again.
 
-ghost use Rattle.std.specs.Prelude.{◌≤◌, length, IfErr, IfOk};
+ghost use Rattle.std.specs.Prelude.{◌≤◌, length, IfErr, IfOk, OnOk};
 ghost use Rattle.std.specs.Io.KnownBytes.{Appends};
-ghost use Rattle.ecsplay.specs.Retaken.{HasResumed, IsReplayedWhole, IsReported, begun_text};
+ghost use Rattle.ecsplay.specs.Retaken.{HasResumed, IsReplayedWhole, IsReported, begun_text, digest_line};
 ghost use Rattle.streams.specs.Writing.{AppendsFront};
 
 use program::Fault;
 use program::hosting::scripts_of;
 use program::serve::tell;
 use script::ScriptBody;
-use session::replaying::{Taken, head_of_record, replay_record};
+use session::replaying::{head_of_record, replay_record};
 use session::{EntryFault, RecordFault, Session};
 use state_text::digest::{digest_of, hex_of};
 use std::alloc::{AllocError, Global};
@@ -100,23 +100,17 @@ pub fn resume<R: Read, O: Write>(
     alloc: Global,
     session: &mut Session<ScriptBody>,
     file: &[u8],
-    record: &mut R,
+    source: &mut R,
     out: &mut O,
 ) -> Result<Vec<u8>, Told>
     requires { length file.now ≤ 1048576 }
     ensures { IfOk result (λ front. HasResumed file.now session.old session.new (R.remaining
-        record.old) front.items (O.contents out.old, O.contents out.new)) }
+        source.old) front.items (O.contents out.old, O.contents out.new)) }
 {
     let mut bodies = scripts_of(alloc, file)?;
-    let mut bytes = read_whole(alloc, record, MOST_RECORD_BYTES)?;
-    let Taken { rest, .. } = replay_record(
-        alloc,
-        session,
-        bodies.as_mut_slice(),
-        bytes.as_slice(),
-        out,
-    )?;
-    let length = bytes.len() - rest.len();
+    let mut bytes = read_whole(alloc, source, MOST_RECORD_BYTES)?;
+    let taken = replay_record(alloc, session, bodies.as_mut_slice(), bytes.as_slice(), out)?;
+    let length = bytes.len() - taken.rest.len();
     bytes.truncate(length);
     Ok(bytes)
 }
@@ -148,25 +142,40 @@ pub fn replay<R: Read, O: Write>(
     alloc: Global,
     session: &mut Session<ScriptBody>,
     file: &[u8],
-    record: &mut R,
+    source: &mut R,
     out: &mut O,
 ) -> Result<(), Told>
     requires { length file.now ≤ 1048576 }
     ensures { IfOk result (λ done. IsReplayedWhole file.now session.old session.new (R.remaining
-        record.old) (O.contents out.old, O.contents out.new)) }
+        source.old) (O.contents out.old, O.contents out.new)) }
 {
     let mut bodies = scripts_of(alloc, file)?;
-    let bytes = read_whole(alloc, record, MOST_RECORD_BYTES)?;
+    let bytes = read_whole(alloc, source, MOST_RECORD_BYTES)?;
     let taken = replay_record(alloc, session, bodies.as_mut_slice(), bytes.as_slice(), out)?;
     if !taken.rest.is_empty() {
-        return Err(Told::Refused(RecordFault::Entry(taken.entries + 1, EntryFault::Cut)));
+        let number = taken.entries.saturating_add(1);
+        return Err(Told::Refused(RecordFault::Entry(number, EntryFault::Cut)));
     }
+    write_digest(alloc, session, out)?;
+    Ok(())
+}
+
+// Writes the line of the digest of a session's state, if one is there.
+fn write_digest<O: Write>(
+    alloc: Global,
+    session: &Session<ScriptBody>,
+    out: &mut O,
+) -> Result<(), Told>
+    ensures { OnOk result (Appends (O.contents out.old) (O.contents out.new) (digest_line
+        session.now)) }
+{
     let engine = session.engine();
-    if !engine.is_spoiled() {
-        let digest = hex_of(digest_of(alloc, engine.state())?);
-        let line = format!(in alloc; "digest {digest}\n")?;
-        write_whole(out, line.as_str())?;
+    if engine.is_spoiled() {
+        return Ok(());
     }
+    let digest = hex_of(digest_of(alloc, engine.state())?);
+    let line = format!(in alloc; "digest {digest}\n")?;
+    write_whole(out, line.as_str())?;
     Ok(())
 }
 
