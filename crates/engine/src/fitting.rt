@@ -57,7 +57,7 @@ pub(crate) fn first_misfit<B: Body>(built: &Built, bodies: &[B]) -> Option<u32>
 }
 
 // Whether the body of a system fits its parameters. If so, it keeps within them.
-#[tactic(auto, using(crate::proofs::AtHome::at_body))]
+#[tactic(auto, using(crate::proofs::BodiesAtHome::at_body))]
 fn body_fits<B: Body>(built: &Built, bodies: &[B], system: u32) -> bool
     requires count { length bodies.now ≡ length built.now.systems }
     requires known { system < length built.now.systems }

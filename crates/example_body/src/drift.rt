@@ -21,7 +21,7 @@ impl Body for Drift {
 
     ghost fits = { λ _ params. may_drift params };
 
-    #[tactic(auto, using(crate::proofs::Keeping::drifted_keeps))]
+    #[tactic(auto, using(crate::proofs::BodiesWithin::drifted_keeps))]
     fn fits(&self, params: &Params) -> bool {
         match params.queries().first() {
             Some(query) => query.writes(Kind::Position),
