@@ -8,7 +8,7 @@ mod recording;
 
 use args::{Args, Work};
 use command_line::words::words_of;
-use hosting::{session_of, status_of, workers_in};
+use hosting::{host, session_of, workers_in};
 use program::file::bytes_of;
 use program::line_faults::tell_line_fault;
 use program::serve::tell;
@@ -17,7 +17,6 @@ use program::{Created, Fault, Opened};
 use recording::{Nowhere, Told, begin, replay, report, resume};
 use script::ScriptBody;
 use session::Session;
-use session::play::play;
 use std::io::BufReader;
 use std::process::ExitCode;
 use std::sync::Wait;
@@ -34,15 +33,15 @@ fn play_here(rt: HostRuntime, session: &mut Session<ScriptBody>, journal: &mut J
     let Ok(mut requests) = BufReader::new(rt.alloc(), rt.stdin()) else {
         return tell(rt.alloc(), &mut faults, &Fault::Memory);
     };
-    let played = play(
+    host(
         rt.alloc(),
         session,
         &Single,
         &mut requests,
         &mut rt.stdout(),
+        &mut faults,
         journal,
-    );
-    status_of(rt.alloc(), played, &mut faults)
+    )
 }
 
 // Plays a session with so many workers, in threads of a runtime.
@@ -58,15 +57,15 @@ fn play_on_threads<H: Threads + Wait + Copy + Send + Sync + 'static>(
         let Ok(mut requests) = BufReader::new(rt.alloc(), rt.stdin()) else {
             return tell(rt.alloc(), &mut faults, &Fault::Memory);
         };
-        let played = play(
+        host(
             rt.alloc(),
             session,
             &workers_in(scope, threads, workers),
             &mut requests,
             &mut rt.stdout(),
+            &mut faults,
             journal,
-        );
-        status_of(rt.alloc(), played, &mut faults)
+        )
     })
 }
 
