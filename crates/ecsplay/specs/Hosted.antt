@@ -1,24 +1,14 @@
--- Sessions of program files, and how they end.
-use Rattle.std.specs.Prelude.{ℕ, ◌≡◌, Bool, List, [], Option, Result, Ok, Err}
-use Rattle.program.specs.Hosted.{IsEngineOf}
+-- How sessions of program files end.
+use Rattle.std.specs.Prelude.{ℕ, ◌≡◌, Bool, List, Option, Result, Ok, Err}
 use Rattle.program.specs.Served.{IsKept, Tells}
 use Rattle.program.specs.Setup.{script_means}
 use Rattle.program.specs.declared.fault.Fault.{Fault}
 use Rattle.program.specs.declared.fault.Fault.TheVariants as fault
 use Rattle.script.specs.declared.script_body.ScriptBody.{ScriptBody}
-use Rattle.sha2.specs.Sha256.{sha256}
 use Rattle.session.specs.Live.{Live}
 use Rattle.session.specs.Played.{IsPlayed, Streams}
 use Rattle.session.specs.declared.play.PlayFault.{PlayFault}
 use Rattle.session.specs.declared.play.PlayFault.TheVariants as play
-use Rattle.ecsplay.specs.Greeting.{IsGreeting}
-
--- a session of a file with these bytes: the engine of the file, nothing kept, its digest, and its greeting
-pub record IsOpened (text : List ℕ) (workers : ℕ) (live : Live ScriptBody) : Type 0 where
-  pub engine : IsEngineOf text live.engine
-  pub marks : live.marks ≡ []
-  pub file : live.file ≡ sha256 text
-  pub greeting : IsGreeting (sha256 text) live.engine.schedule workers live.greeting
 
 -- what a session that ended early is reported as
 abbrev pub fault_of_play : PlayFault → Fault

@@ -1,4 +1,3 @@
 pub mod Asked
-pub mod Greeting
 pub mod Hosted
 pub mod Retaken

@@ -1,37 +1,18 @@
-// A session of a program file, on readers and writers.
+// Sessions on readers and writers.
 
-ghost use Rattle.std.specs.Prelude.{◌≡◌, ◌≤◌, length, IfErr, IfOk};
-ghost use Rattle.command_line.specs.declared.args.Work.TheVariants as work;
-ghost use Rattle.ecsplay.specs.Hosted.{EndsWith, IsHosted, IsOpened, fault_of_play};
-ghost use Rattle.program.specs.Refused.{IsRefusedBy};
+ghost use Rattle.std.specs.Prelude.{◌≡◌, ◌≤◌};
+ghost use Rattle.ecsplay.specs.Hosted.{EndsWith, IsHosted, fault_of_play};
 ghost use Rattle.session.specs.Entries.{kept};
-ghost use Rattle.std.specs.Prelude.{None, Some, false};
 
-use crate::greeting::greeting_of;
 use program::Fault;
-use program::hosting::engine_of;
 use program::serve::tell;
 use script::ScriptBody;
 use session::Session;
 use session::play::{PlayFault, play};
-use sha2::{Digest, Sha256};
 use std::alloc::Global;
 use std::io::{BufRead, Write};
 use std::thread::Scope;
 use worker_pool::{Mode, NoGate, Workers};
-
-/// The session of a program file, which is to run with this number of workers: its engine as its runs begin, and the
-/// greeting. The file is refused as a command that runs it no time is.
-pub fn session_of(alloc: Global, workers: u8, file: &[u8]) -> Result<Session<ScriptBody>, Fault>
-    requires { length file.now ≤ 1048576 }
-    ensures opened { IfOk result (IsOpened file.now workers) }
-    ensures refused { IfErr result (IsRefusedBy false 1 (Some file.now) None (work.Run 0 0 false)) }
-{
-    let engine = engine_of(alloc, file)?;
-    let digest = Sha256::digest(file);
-    let greeting = greeting_of(alloc, digest, engine.schedule(), workers)?;
-    Ok(Session::new(alloc, engine, digest, greeting))
-}
 
 /// Plays a session to its end, its runs in the mode, and gives the exit status: 0 where it ended behind `quit` or at
 /// the end of the requests. A failure is reported to `faults` in one line, with status 3.

@@ -2,13 +2,13 @@
 #![tactic(auto)]
 
 mod args;
-mod greeting;
 mod hosting;
 mod recording;
 
 use args::{Args, Work};
 use command_line::words::words_of;
-use hosting::{host, session_of, workers_in};
+use hosting::{host, workers_in};
+use live_world::opening::session_of;
 use program::file::bytes_of;
 use program::line_faults::tell_line_fault;
 use program::serve::tell;

@@ -1,7 +1,7 @@
 // The lines with which a host is greeted.
 
 ghost use Rattle.std.specs.Prelude.{◌≡◌, ◌++◌, string_bytes, IfOk, OnOk};
-ghost use Rattle.ecsplay.specs.Greeting.{IsGreeting, greeting_text, line_of, word_of};
+ghost use Rattle.live_world.specs.Greeting.{IsGreeting, greeting_text, line_of, word_of};
 
 use ambiguity_report::report::{is_settled, is_unfiltered};
 use schedule_builder::Built;

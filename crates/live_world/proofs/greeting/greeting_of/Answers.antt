@@ -1,7 +1,7 @@
 use Rattle.std.proofs.Common.{◌≡◌, ◌↔◌, Bool, true, false, not, string_bytes, refl, ap₂, ◌∙◌}
 use Rattle.std.proofs.lemmas.Result.{IfOk-weaker}
-use Rattle.ecsplay.specs.Greeting.{IsGreeting, greeting_text}
-use Rattle.ecsplay.proofs.greeting.greeting_of.Goals as goal
+use Rattle.live_world.specs.Greeting.{IsGreeting, greeting_text}
+use Rattle.live_world.proofs.greeting.greeting_of.Goals as goal
 
 -- what is not unfiltered has filters
 filtered : (b : Bool) (P : Type 0) → (b ≡ true) ↔ P → (not b ≡ false) ↔ P

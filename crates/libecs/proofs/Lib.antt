@@ -1,0 +1,2 @@
+mod KeptParts
+mod Refusals

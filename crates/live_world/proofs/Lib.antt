@@ -1,0 +1,3 @@
+mod LineTexts
+mod LoadReplies
+mod Replies
