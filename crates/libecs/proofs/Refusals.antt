@@ -1,5 +1,5 @@
 -- A program file that is not opened leaves a handle as it is.
-use Rattle.std.proofs.Common.{◌≡◌, ℕ, List, Option, refl}
+use Rattle.std.proofs.Common.{ℕ, List, Option, refl}
 use Rattle.libecs.specs.Calls.{HasOpened, IsRefusal, IsUnopened}
 use Rattle.libecs.specs.declared.calls.Status.{Status}
 use Rattle.libecs.specs.declared.calls.Status.TheVariants.{Done, Refused, Closed, Memory, Open}

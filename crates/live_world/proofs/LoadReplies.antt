@@ -1,5 +1,5 @@
 -- The replies to lines that are loaded: none of them is that these are too long.
-use Rattle.std.proofs.Common.{◌≡◌, ℕ, List, inl, inr, sym, ap, subst}
+use Rattle.std.proofs.Common.{ℕ, List, inl, inr, sym, ap, subst}
 use Rattle.requests.specs.declared.load.Load.{Load}
 use Rattle.session.specs.Live.{Live}
 use Rattle.session.specs.Plays.{IsLoadReply}
