@@ -61,8 +61,8 @@ lanes_after lanes at (Sync k) = lanes
 -- a condition that is asked
 abbrev pub answer_shapes : ℕ → Bool → ℕ → ℕ → List Shape
 answer_shapes c answer x top =
-    Diamond x (capped (top + 34)) (cond answer style.Condition style.Refused)
-    ∷ Text (capped (x + 10)) (capped (capped (top + 34) + 4)) (label.Condition c) (cond answer style.Condition style.Refused) ∷ []
+    Diamond x (capped (top + 34)) (label.Asked c) (cond answer style.Condition style.Refused)
+    ∷ Text (capped (x + 10)) (capped (capped (top + 34) + 4)) (label.Number c) (cond answer style.Condition style.Refused) ∷ []
 
 -- a system that is skipped
 abbrev pub skip_shapes : ℕ → ℕ → ℕ → List Shape

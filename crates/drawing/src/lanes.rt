@@ -266,11 +266,16 @@ fn add_answer(
         Style::Refused
     };
     let y = top.saturating_add(ASKED);
-    shapes.push(Shape::Diamond { x, y, style })?;
+    shapes.push(Shape::Diamond {
+        x,
+        y,
+        title: Label::Asked(condition),
+        style,
+    })?;
     shapes.push(Shape::Text {
         x: x.saturating_add(10),
         y: y.saturating_add(4),
-        label: Label::Condition(condition),
+        label: Label::Number(condition),
         style,
     })?;
     Ok(())

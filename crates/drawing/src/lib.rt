@@ -5,4 +5,4 @@ pub mod lanes;
 pub mod shape;
 pub mod svg;
 
-pub use shape::{Label, Shape, Style};
+pub use shape::{Label, Shape, Style, Words};

@@ -17,6 +17,10 @@ pub enum Style {
     Edge,
     /// An edge that waits for commands.
     Deferring,
+    /// An order of two sets.
+    Order,
+    /// An order of two sets, of which some system waits for commands.
+    DeferringOrder,
     /// A sync point.
     Sync,
     /// A condition; of a run, one that answered yes.
@@ -45,6 +49,8 @@ impl Style {
             Style::Set => "set",
             Style::Edge => "edge",
             Style::Deferring => "deferring",
+            Style::Order => "order",
+            Style::DeferringOrder => "order deferring",
             Style::Sync => "sync",
             Style::Condition => "condition",
             Style::Refused => "refused",
@@ -76,14 +82,26 @@ pub enum Label {
     Set(u32),
     /// How many systems of a set are in the box, and the name of the set.
     Members(u32, u32),
-    /// The number of a condition.
+    /// The text of a condition, or its number where the text has more than 44 bytes.
     Condition(u32),
+    /// The text of a condition, however long it is.
+    Asked(u32),
+    /// The number of a condition.
+    Number(u32),
+    /// What a system reads and writes.
+    Touched(u32),
     /// The number of a sync point.
     Sync(u32),
     /// What two accesses meet on.
     Datum(Datum),
     /// The number of a run.
     Run(u32),
+    /// Which runs are drawn, by the numbers of the first and the last, and how many there are.
+    Runs {
+        first: u32,
+        last: u32,
+        all: u64,
+    },
     /// How many systems ran at once at most, and in the mean: whole ones and hundredths.
     AtOnce {
         most: u64,
@@ -101,6 +119,15 @@ pub enum Shape {
         y: u64,
         width: u64,
         height: u64,
+        style: Style,
+    },
+    /// A box with a title, which a viewer shows where one points at it.
+    Titled {
+        x: u64,
+        y: u64,
+        width: u64,
+        height: u64,
+        title: Label,
         style: Style,
     },
     /// A straight line.
@@ -121,10 +148,11 @@ pub enum Shape {
         to_y: u64,
         style: Style,
     },
-    /// A diamond, by its middle.
+    /// A diamond, by its middle, with a title.
     Diamond {
         x: u64,
         y: u64,
+        title: Label,
         style: Style,
     },
     /// Something written, from a place on.
@@ -134,4 +162,17 @@ pub enum Shape {
         label: Label,
         style: Style,
     },
+}
+
+/// The texts that labels name by number.
+#[derive(Clone, Copy)]
+pub struct Words<'a> {
+    /// The names of the systems.
+    pub names: &'a [&'a str],
+    /// The names of the sets.
+    pub sets: &'a [&'a str],
+    /// The conditions.
+    pub conditions: &'a [&'a str],
+    /// What each system reads and writes.
+    pub touched: &'a [&'a str],
 }

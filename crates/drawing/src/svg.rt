@@ -1,9 +1,9 @@
 // The text of a drawing, as SVG.
 
 ghost use Rattle.std.specs.Prelude.{◌≡◌, ◌++◌, [], map, get_or, flat_map, OnOk, IfOk, string_bytes};
-ghost use Rattle.drawing.specs.ShapeText.{attribute, attributes, point_text, points_text, corners_text, opening, label_text, written_text, shape_text, rect_text, line_text, curve_text, diamond_text, text_opening, at_once_text, head_text, drawing_text};
+ghost use Rattle.drawing.specs.ShapeText.{attribute, attributes, point_text, points_text, corners_text, opening, rect_opening, diamond_opening, label_text, runs_text, short_text, texts_of, titled_end, written_text, shape_text, rect_text, line_text, curve_text, text_opening, at_once_text, head_text, drawing_text};
 
-use crate::shape::{Label, Shape, Style};
+use crate::shape::{Label, Shape, Style, Words};
 use std::alloc::{AllocError, Global};
 
 /// How a drawing begins.
@@ -11,24 +11,22 @@ pub const OPENER: &str = "<svg xmlns='http://www.w3.org/2000/svg'";
 
 /// How each class of shapes looks.
 pub const RULES: &str =
-    "<style>svg{background:#fff}text{font:11px sans-serif;fill:#222;stroke:#fff;stroke-width:3px;paint-order:stroke}path,line{fill:none;stroke:#555}rect{fill:#fff;stroke:#222}rect.system{fill:#eef4fb}rect.running{fill:#cfe6cf}rect.skipped{fill:#eee;stroke-dasharray:2 2}line.set{stroke:#8a6db1}text.set{fill:#6b4f94}text.system,text.running{stroke:none}path.edge,path.deferring{marker-end:url(#tip)}.deferring{stroke-dasharray:5 3}line.sync{stroke:#bbb;stroke-width:5}text.sync{fill:#888}polygon{fill:#ffe9a8;stroke:#8a6d00}polygon.refused{fill:#fff}path.race{stroke:#c00}path.silenced{stroke:#c00;stroke-dasharray:2 3}text.race,text.silenced{fill:#c00}text.skipped{fill:#888}line.axis{stroke:#ccc}</style>\n<defs><marker id='tip' viewBox='0 0 8 8' refX='8' refY='4' markerWidth='7' markerHeight='7' orient='auto'><path d='M 0 0 L 8 4 L 0 8'/></marker></defs>\n";
+    "<style>svg{background:#fff}text{font:11px sans-serif;fill:#222;stroke:#fff;stroke-width:3px;paint-order:stroke;pointer-events:none}path,line{fill:none;stroke:#555}rect{fill:#fff;stroke:#222}rect.system{fill:#eef4fb}rect.running{fill:#cfe6cf}rect.skipped{fill:#eee;stroke-dasharray:2 2}line.set{stroke:#8a6db1}text.set{fill:#6b4f94}text.system,text.running{stroke:none}path.edge,path.deferring,path.order{marker-end:url(#tip)}path.order{stroke:#6b4f94;stroke-width:2}.deferring{stroke-dasharray:5 3}line.sync{stroke:#bbb;stroke-width:5}text.sync{fill:#888}polygon{fill:#ffe9a8;stroke:#8a6d00}polygon.refused{fill:#fff}path.race{stroke:#c00}path.silenced{stroke:#c00;stroke-dasharray:2 3}text.race,text.silenced{fill:#c00;text-anchor:end}text.skipped{fill:#888}line.axis{stroke:#ccc}</style>\n<defs><marker id='tip' viewBox='0 0 8 8' refX='8' refY='4' markerWidth='7' markerHeight='7' orient='auto'><path d='M 0 0 L 8 4 L 0 8'/></marker></defs>\n";
 
-/// The text of a drawing of this width and height, of systems and sets with these names by number: its shapes in order.
+/// The text of a drawing of this width and height, whose labels name these texts by number: its shapes in order.
 pub fn text_of_drawing(
     alloc: Global,
-    names: &[&str],
-    sets: &[&str],
+    words: &Words<'_>,
     width: u64,
     height: u64,
     shapes: &[Shape],
 ) -> Result<String, AllocError>
     ensures { IfOk result (λ text. string_bytes text
-        ≡ drawing_text OPENER.now RULES.now (map (λ name. name.now) names.now)
-        (map (λ name. name.now) sets.now) width height shapes.now) }
+        ≡ drawing_text OPENER.now RULES.now (texts_of words.now) width height shapes.now) }
 {
     let mut text = String::new(alloc);
     push_head(&mut text, OPENER, RULES, width, height)?;
-    push_shapes(&mut text, names, sets, shapes)?;
+    push_shapes(&mut text, words, shapes)?;
     text.push_str("</svg>\n")?;
     Ok(text)
 }
@@ -99,36 +97,20 @@ fn push_opening(text: &mut String, name: &str, style: Style) -> Result<(), Alloc
 }
 
 // Adds the texts of these shapes.
-fn push_shapes(
-    text: &mut String,
-    names: &[&str],
-    sets: &[&str],
-    shapes: &[Shape],
-) -> Result<(), AllocError>
+fn push_shapes(text: &mut String, words: &Words<'_>, shapes: &[Shape]) -> Result<(), AllocError>
     ensures { OnOk result (string_bytes text.new
-        ≡ string_bytes text.old
-        ++ flat_map
-        (shape_text (map (λ name. name.now) names.now) (map (λ name. name.now)
-        sets.now))
-        shapes.now) }
+        ≡ string_bytes text.old ++ flat_map (shape_text (texts_of words.now)) shapes.now) }
 {
     for shape in shapes {
-        push_shape(text, names, sets, *shape)?;
+        push_shape(text, words, *shape)?;
     }
     Ok(())
 }
 
 // Adds the text of a shape.
-fn push_shape(
-    text: &mut String,
-    names: &[&str],
-    sets: &[&str],
-    shape: Shape,
-) -> Result<(), AllocError>
+fn push_shape(text: &mut String, words: &Words<'_>, shape: Shape) -> Result<(), AllocError>
     ensures { OnOk result (string_bytes text.new
-        ≡ string_bytes text.old
-        ++ shape_text (map (λ name. name.now) names.now) (map (λ name. name.now) sets.now)
-        shape) }
+        ≡ string_bytes text.old ++ shape_text (texts_of words.now) shape) }
 {
     match shape {
         Shape::Rect {
@@ -138,6 +120,17 @@ fn push_shape(
             height,
             style,
         } => push_rect(text, x, y, width, height, style),
+        Shape::Titled {
+            x,
+            y,
+            width,
+            height,
+            title,
+            style,
+        } => {
+            push_rect_opening(text, x, y, width, height, style)?;
+            push_titled_end(text, words, "rect", title)
+        }
         Shape::Line {
             x,
             y,
@@ -154,10 +147,13 @@ fn push_shape(
             to_y,
             style,
         } => push_curve(text, x, y, near, far, to_x, to_y, style),
-        Shape::Diamond { x, y, style } => push_diamond(text, x, y, style),
+        Shape::Diamond { x, y, title, style } => {
+            push_diamond_opening(text, x, y, style)?;
+            push_titled_end(text, words, "polygon", title)
+        }
         Shape::Text { x, y, label, style } => {
             push_text_opening(text, x, y, style)?;
-            push_written(text, names, sets, label)
+            push_written(text, words, label)
         }
     }
 }
@@ -174,11 +170,41 @@ fn push_rect(
     ensures { OnOk result (string_bytes text.new
         ≡ string_bytes text.old ++ rect_text x y width height style) }
 {
-    push_opening(text, "rect", style)?;
-    push_numbers(text, "x", x, "y", y)?;
-    push_numbers(text, "width", width, "height", height)?;
+    push_rect_opening(text, x, y, width, height, style)?;
     text.push_str("/>\n")?;
     Ok(())
+}
+
+// Adds the beginning of a box.
+fn push_rect_opening(
+    text: &mut String,
+    x: u64,
+    y: u64,
+    width: u64,
+    height: u64,
+    style: Style,
+) -> Result<(), AllocError>
+    ensures { OnOk result (string_bytes text.new
+        ≡ string_bytes text.old ++ rect_opening x y width height style) }
+{
+    push_opening(text, "rect", style)?;
+    push_numbers(text, "x", x, "y", y)?;
+    push_numbers(text, "width", width, "height", height)
+}
+
+// Adds the end of a shape with this title.
+fn push_titled_end(
+    text: &mut String,
+    words: &Words<'_>,
+    name: &str,
+    title: Label,
+) -> Result<(), AllocError>
+    ensures { OnOk result (string_bytes text.new
+        ≡ string_bytes text.old ++ titled_end name.now (texts_of words.now) title) }
+{
+    text.push_str("><title>")?;
+    push_label(text, words, title)?;
+    writeln!(text, "</title></{name}>")
 }
 
 // Adds the text of a straight line.
@@ -224,15 +250,15 @@ fn push_curve(
 // How far the corners of a diamond are from its middle.
 const HALF: u64 = 8;
 
-// Adds the text of a diamond, which lies far enough from the upper and left edges.
-fn push_diamond(text: &mut String, x: u64, y: u64, style: Style) -> Result<(), AllocError>
+// Adds the beginning of a diamond, which lies far enough from the upper and left edges.
+fn push_diamond_opening(text: &mut String, x: u64, y: u64, style: Style) -> Result<(), AllocError>
     ensures { OnOk result (string_bytes text.new
-        ≡ string_bytes text.old ++ diamond_text x y style) }
+        ≡ string_bytes text.old ++ diamond_opening x y style) }
 {
     push_opening(text, "polygon", style)?;
     text.push_str(" points='")?;
     push_corners(text, x, y)?;
-    text.push_str("'/>\n")?;
+    text.push_str("'")?;
     Ok(())
 }
 
@@ -258,57 +284,67 @@ fn push_text_opening(text: &mut String, x: u64, y: u64, style: Style) -> Result<
 }
 
 // Adds what is written, with its end.
-fn push_written(
-    text: &mut String,
-    names: &[&str],
-    sets: &[&str],
-    label: Label,
-) -> Result<(), AllocError>
+fn push_written(text: &mut String, words: &Words<'_>, label: Label) -> Result<(), AllocError>
     ensures { OnOk result (string_bytes text.new
-        ≡ string_bytes text.old
-        ++ written_text (map (λ name. name.now) names.now) (map (λ name. name.now) sets.now)
-        label) }
+        ≡ string_bytes text.old ++ written_text (texts_of words.now) label) }
 {
-    push_label(text, names, sets, label)?;
+    push_label(text, words, label)?;
     text.push_str("</text>\n")?;
     Ok(())
 }
 
 // Adds what is written.
-fn push_label(
-    text: &mut String,
-    names: &[&str],
-    sets: &[&str],
-    label: Label,
-) -> Result<(), AllocError>
+fn push_label(text: &mut String, words: &Words<'_>, label: Label) -> Result<(), AllocError>
     ensures { OnOk result (string_bytes text.new
-        ≡ string_bytes text.old
-        ++ label_text (map (λ name. name.now) names.now) (map (λ name. name.now) sets.now)
-        label) }
+        ≡ string_bytes text.old ++ label_text (texts_of words.now) label) }
 {
     match label {
-        Label::System(system) => {
-            let name = name_of(names, system);
-            write!(text, "{name}")
-        }
-        Label::Set(set) => {
-            let name = name_of(sets, set);
-            write!(text, "{name}")
-        }
+        Label::System(system) => push_name(text, words.names, system),
+        Label::Set(set) => push_name(text, words.sets, set),
         Label::Members(set, count) => {
-            let name = name_of(sets, set);
-            write!(text, "{name} ({count})")
+            push_name(text, words.sets, set)?;
+            write!(text, " ({count})")
         }
-        Label::Condition(condition) => write!(text, "#{condition}"),
+        Label::Condition(condition) => push_short(text, words.conditions, condition),
+        Label::Asked(condition) => push_name(text, words.conditions, condition),
+        Label::Number(condition) => write!(text, "#{condition}"),
+        Label::Touched(system) => push_name(text, words.touched, system),
         Label::Sync(point) => write!(text, "sync {point}"),
         Label::Datum(datum) => write!(text, "{datum}"),
         Label::Run(run) => write!(text, "run {run}"),
+        Label::Runs { first, last, all } => write!(text, "runs {first} to {last} of {all}"),
         Label::AtOnce {
             most,
             whole,
             hundredths,
         } => push_at_once(text, most, whole, hundredths),
     }
+}
+
+// Adds the text of a number.
+fn push_name(text: &mut String, names: &[&str], number: u32) -> Result<(), AllocError>
+    ensures { OnOk result (string_bytes text.new
+        ≡ string_bytes text.old ++ get_or (map (λ name. name.now) names.now) number []) }
+{
+    text.push_str(name_of(names, number))?;
+    Ok(())
+}
+
+// What is written of a condition has at most so many bytes.
+const MOST_BYTES: usize = 44;
+
+// Adds the text of a condition, or its number where the text is long.
+fn push_short(text: &mut String, conditions: &[&str], condition: u32) -> Result<(), AllocError>
+    ensures { OnOk result (string_bytes text.new
+        ≡ string_bytes text.old
+        ++ short_text condition (get_or (map (λ name. name.now) conditions.now) condition [])) }
+{
+    let asked = name_of(conditions, condition);
+    if asked.len() <= MOST_BYTES {
+        text.push_str(asked)?;
+        return Ok(());
+    }
+    write!(text, "#{condition}")
 }
 
 // Adds how many ran at once.

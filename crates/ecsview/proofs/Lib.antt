@@ -2,3 +2,4 @@ pub mod Divergences
 pub mod Explanations
 pub mod PairTexts
 pub mod Lines
+pub mod Pictures

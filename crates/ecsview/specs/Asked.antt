@@ -3,8 +3,9 @@ use Rattle.std.specs.Prelude.{List, [], ◌∷◌, Option, Some, None, codes, op
 use Rattle.std.specs.Option.{option_map_or}
 use Rattle.std.specs.Str.{bytes_eq}
 use Rattle.clap.specs.Words.{App, Row, Text, first_of}
-use Rattle.command_line.specs.Grammar.{command, number, positional, program}
+use Rattle.command_line.specs.Grammar.{command, number, option, positional, program}
 use Rattle.command_line.specs.Values.{number_between, value_of}
+use Rattle.ecsview.specs.Part.{part_asked}
 use Rattle.ecsview.specs.declared.args.Args.{Args}
 use Rattle.ecsview.specs.declared.args.Work.{Work}
 use Rattle.ecsview.specs.declared.args.Work.TheVariants.{Schedule, Lanes, Races, Diverge, Steps, Explain}
@@ -13,7 +14,7 @@ use Rattle.ecsview.specs.declared.args.Work.TheVariants.{Schedule, Lanes, Races,
 abbrev pub ecsview_program : App
 ecsview_program = program (codes "ecsview") (
     command (codes "schedule") (positional (codes "file") ∷ [])
-    ∷ command (codes "lanes") (positional (codes "file") ∷ positional (codes "trace") ∷ [])
+    ∷ command (codes "lanes") (positional (codes "file") ∷ positional (codes "trace") ∷ option (codes "runs") (codes "runs") ∷ [])
     ∷ command (codes "races") (positional (codes "file") ∷ [])
     ∷ command (codes "diverge") (positional (codes "file") ∷ positional (codes "trace") ∷ positional (codes "other") ∷ [])
     ∷ command (codes "steps") (positional (codes "file") ∷ positional (codes "trace") ∷ number (codes "run") (codes "run") 1 4294967295 ∷ [])
@@ -54,7 +55,7 @@ steps_asked run = option_map_or steps_of_run run (Some (Steps None))
 -- the work of a command of this name
 abbrev pub work_asked : Text → List Row → Option Work
 work_asked name rows = if bytes_eq name (codes "schedule") then Some Schedule
-    else (if bytes_eq name (codes "lanes") then Some Lanes
+    else (if bytes_eq name (codes "lanes") then option_map (λ part. Lanes part) (part_asked (first_of (codes "runs") rows))
     else (if bytes_eq name (codes "races") then Some Races
     else (if bytes_eq name (codes "diverge") then Some Diverge
     else (if bytes_eq name (codes "steps") then steps_asked (first_of (codes "run") rows)

@@ -1,11 +1,15 @@
 -- The texts of drawings: of a schedule, and of the runs of a trace.
-use Rattle.std.specs.Prelude.{ℕ, ◌≡◌, ◌+◌, ◌*◌, min, max, List, [], ◌∷◌, ◌++◌, length, map, reverse, Option, IfSome}
+use Rattle.std.specs.Prelude.{ℕ, ◌≡◌, ◌+◌, ◌-◌, ◌*◌, ◌==◌, cond, min, max, List, [], ◌∷◌, ◌++◌, drop, length, map, reverse, take, Option, IfSome}
 use Rattle.std.specs.List.{AllByRecursion}
 use Rattle.ambiguity_report.specs.declared.report.Pair.{Pair}
 use Rattle.ambiguity_report.specs.Report.{IsReport}
 use Rattle.drawing.specs.Lanes.{bottom_of, run_shapes}
-use Rattle.drawing.specs.ShapeText.{capped, drawing_text}
+use Rattle.drawing.specs.ShapeText.{Texts, capped, drawing_text}
+use Rattle.drawing.specs.declared.shape.Label.TheVariants as label
 use Rattle.drawing.specs.declared.shape.Shape.{Shape}
+use Rattle.drawing.specs.declared.shape.Shape.TheVariants.{Text}
+use Rattle.drawing.specs.declared.shape.Style.TheVariants as style
+use Rattle.ecsview.specs.declared.part.Part.{Part}
 use Rattle.findings.specs.declared.loading.Loaded.{Loaded}
 use Rattle.model.specs.declared.steps.Step.{Step}
 use Rattle.model.specs.steps.Lawful.{IsLawful}
@@ -13,18 +17,25 @@ use Rattle.model.specs.steps.Schedule.{Schedule, Recorded, recording}
 use Rattle.schedule_drawing.specs.Drawn.{drawn_height, drawn_width, schedule_shapes}
 use Rattle.trace_checker.specs.Grammar.{trace_text}
 
+-- the names of the systems of a file, and these texts
+abbrev pub texts_by : Loaded → List (List ℕ) → List (List ℕ) → List (List ℕ) → Texts
+texts_by l sets conditions touched = record { names = map (λ name. name.now) l.file.names.items; sets = sets; conditions = conditions; touched = touched }
+
 -- ---- a schedule
 
 -- the members of the sets of a file
 abbrev pub members_of : Loaded → List (List ℕ)
 members_of l = map (λ members. members.items) l.sets.members.items
 
--- it is that of the shapes of the schedule that a file declares, in which just the pairs race that do, by the names of its systems and sets
+-- it is that of the shapes of the schedule that a file declares, in which just the pairs race that do, by the names of its systems and sets, and some texts of
+-- its conditions and of what its systems touch
 pub record IsScheduleText (opener rules : List ℕ) (l : Loaded) (text : List ℕ) : Type 0 where
   pub pairs : List Pair
   pub report : IsReport l.file.built pairs
-  pub same : text ≡ drawing_text opener rules (map (λ name. name.now) l.file.names.items) (map (λ name. name.now) l.sets.names.items)
-      (drawn_width l.file.built) (drawn_height l.file.built (members_of l)) (schedule_shapes l.file.built (members_of l) pairs)
+  pub conditions : List (List ℕ)
+  pub touched : List (List ℕ)
+  pub same : text ≡ drawing_text opener rules (texts_by l (map (λ name. name.now) l.sets.names.items) conditions touched)
+      (drawn_width l.file.built) (drawn_height (schedule_shapes l.file.built (members_of l) pairs)) (schedule_shapes l.file.built (members_of l) pairs)
 
 -- ---- the runs of a trace
 
@@ -59,9 +70,33 @@ lanes_width longest = max (capped (capped (56 * longest) + 100)) 360
 abbrev pub IsLawfulRun : Schedule → Recorded → Type 0
 IsLawfulRun s r = IsLawful (recording s r.sets) r.steps
 
--- the text is that of the shapes of the runs that the trace has, each of which is lawful, once and in order, by the names of the systems
-pub record IsLanesText (opener rules : List ℕ) (l : Loaded) (trace : Option (List ℕ)) (text : List ℕ) : Type 0 where
+-- the runs of a part, of all; what is not there is not drawn
+abbrev pub from_of : Part → ℕ → ℕ
+from_of part count = min (part.first - 1) count
+
+abbrev pub to_of : Part → ℕ → ℕ
+to_of part count = max (from_of part count) (min part.last count)
+
+abbrev pub part_of : {A : Type 0} → Part → List A → List A
+part_of part runs = take (to_of part (length runs) - from_of part (length runs)) (drop (from_of part (length runs)) runs)
+
+-- what is written above them, where they are not all
+abbrev pub heading_shapes : Part → ℕ → ℕ → List Shape
+heading_shapes part drawn count = cond (drawn == count) [] (Text 8 18 (label.Runs part.first part.last count) style.Axis ∷ [])
+
+abbrev pub top_of : ℕ → ℕ → ℕ
+top_of drawn count = cond (drawn == count) 10 30
+
+-- the shapes of some of so many runs
+abbrev pub drawn_shapes : Part → ℕ → List Recorded → List Shape
+drawn_shapes part count runs = heading_shapes part (length runs) count ++ lanes_from (part.first - 1) (top_of (length runs) count) runs
+
+-- the text is that of the shapes of the runs of the part that the trace has, once and in order, by the names of the systems, and some texts of conditions; all runs
+-- of the trace are lawful
+pub record IsLanesText (opener rules : List ℕ) (l : Loaded) (trace : Option (List ℕ)) (part : Part) (text : List ℕ) : Type 0 where
   pub runs : List Recorded
   pub read : IfSome trace (λ bytes. bytes ≡ trace_text runs)
   pub lawful : AllByRecursion (IsLawfulRun l.file.built) runs
-  pub same : text ≡ drawing_text opener rules (map (λ name. name.now) l.file.names.items) [] (lanes_width (longest_from 0 runs)) (height_from 10 runs) (lanes_from 0 10 runs)
+  pub conditions : List (List ℕ)
+  pub same : text ≡ drawing_text opener rules (texts_by l [] conditions []) (lanes_width (longest_from 0 (part_of part runs)))
+      (height_from (top_of (length (part_of part runs)) (length runs)) (part_of part runs)) (drawn_shapes part (length runs) (part_of part runs))

@@ -4,6 +4,7 @@ pub mod Drawings
 pub mod Explained
 pub mod Found
 pub mod Meanings
+pub mod Part
 pub mod Refusals
 pub mod Style
 pub mod Unasked

@@ -56,7 +56,7 @@ pub record IsUnshown (l : ProgramLoaded) (trace : Option (List ℕ)) (fault : Fa
 -- with the runs is refused
 abbrev pub IsRefusal : Work → Loaded → Option (List ℕ) → Option (List ℕ) → Fault → Type 0
 IsRefusal work.Schedule l trace other fault = fault ≡ Memory
-IsRefusal work.Lanes l trace other fault = IsTraceUnread trace fault ⊎ IsUndrawn l.file.built trace fault
+IsRefusal (work.Lanes part) l trace other fault = IsTraceUnread trace fault ⊎ IsUndrawn l.file.built trace fault
 IsRefusal work.Races l trace other fault = IsUngiven (length l.file.entities.items) fault ⊎ IsUnwitnessed l.file.built (meanings_of l.file) (first_of l.file) fault
 IsRefusal work.Diverge l trace other fault = IsTraceUnread trace fault ⊎ (IsTraceUnread other fault ⊎ (IsUngiven (length l.file.entities.items) fault ⊎ IsUncompared l.file trace other fault))
 IsRefusal (work.Steps run) l trace other fault = IsTraceUnread trace fault ⊎ (IsUngiven (length l.file.entities.items) fault ⊎ IsUnshown l.file trace fault)

@@ -5,6 +5,7 @@ ghost use Rattle.clap.specs.Words.{first_of, found_of, rows_of, subcommand_rows_
 ghost use Rattle.command_line.specs.Grammar.{IsIdle, IsNoWork, app_of_grammar, asked_for, work_in};
 ghost use Rattle.ecsview.specs.Asked.{asked_by, asked_of, asked_on, ecsview_program, steps_asked, steps_of_run, work_asked};
 
+use crate::part::{Part, part_of};
 use clap::ArgMatches;
 use command_line::LineFault;
 use command_line::grammar::{Argument, Grammar, Subcommand};
@@ -16,8 +17,8 @@ use std::alloc::Global;
 pub enum Work {
     /// A drawing of the schedule.
     Schedule,
-    /// A drawing of the runs of a trace.
-    Lanes,
+    /// A drawing of these runs of a trace.
+    Lanes(Part),
     /// A witness for each pair that races.
     Races,
     /// Where two traces part.
@@ -45,7 +46,7 @@ const FILE: Argument = Argument {
     id: "file",
     long: "",
     value: "FILE",
-    help: "the program file",
+    help: "the program file; exit status 1: refused, 2: usage, 3: input, output",
     range: None,
 };
 
@@ -61,7 +62,7 @@ const OTHER: Argument = Argument {
     id: "other",
     long: "",
     value: "OTHER",
-    help: "the file of other recorded runs",
+    help: "the file of other recorded runs; exit status 1: the two part",
     range: None,
 };
 
@@ -73,37 +74,45 @@ const RUN: Argument = Argument {
     range: Some((1, 4_294_967_295)),
 };
 
+const RUNS: Argument = Argument {
+    id: "runs",
+    long: "runs",
+    value: "A..B",
+    help: "the runs to draw, from A to B; the first 50 if left out",
+    range: None,
+};
+
 const GRAMMAR: Grammar = Grammar {
     program: "ecsview",
     subcommands: &[
         Subcommand {
             name: "schedule",
-            about: "draws the schedule of a program file, as SVG: ecsview schedule arena.toml > arena.svg",
+            about: "draws the schedule, as SVG: ecsview schedule a.toml > a.svg",
             arguments: &[FILE],
         },
         Subcommand {
             name: "lanes",
-            about: "draws recorded runs, what ran beside what, as SVG: ecsview lanes arena.toml arena.trace > lanes.svg",
-            arguments: &[FILE, TRACE],
+            about: "draws recorded runs, as SVG: ecsview lanes a.toml a.trace > a.svg",
+            arguments: &[FILE, TRACE, RUNS],
         },
         Subcommand {
             name: "races",
-            about: "prints two lists of a run for each pair that races, and the worlds that they leave: ecsview races arena.toml",
+            about: "prints two orders for each pair that races: ecsview races a.toml",
             arguments: &[FILE],
         },
         Subcommand {
             name: "diverge",
-            about: "prints where two traces part: ecsview diverge arena.toml here.trace there.trace",
+            about: "prints where two traces part: ecsview diverge a.toml a.trace b.trace",
             arguments: &[FILE, TRACE, OTHER],
         },
         Subcommand {
             name: "steps",
-            about: "prints the world after each sync point of recorded runs: ecsview steps arena.toml arena.trace --run 2",
+            about: "prints worlds of recorded runs: ecsview steps a.toml a.trace --run 2",
             arguments: &[FILE, TRACE, RUN],
         },
         Subcommand {
             name: "explain",
-            about: "prints why a program file is refused, where, and what to do: ecsview explain arena.toml; or what a code means: ecsview explain P2",
+            about: "prints why a file is refused: ecsview explain a.toml (or explain P2)",
             arguments: &[FILE],
         },
     ],
@@ -111,8 +120,8 @@ const GRAMMAR: Grammar = Grammar {
 
 impl<'a> Args<'a> {
     /// Reads the words of a command line, of which the first is the program's own name: `schedule FILE`,
-    /// `lanes FILE TRACE`, `races FILE`, `diverge FILE TRACE OTHER`, `steps FILE TRACE [--run N]` or `explain FILE`,
-    /// where N is from 1 to 4,294,967,295, spelled in decimal digits alone. Where a line has `--help` it is asked
+    /// `lanes FILE TRACE [--runs A..B]`, `races FILE`, `diverge FILE TRACE OTHER`, `steps FILE TRACE [--run N]` or
+    /// `explain FILE`. Runs are counted from 1, in decimal digits alone. Where a line has `--help` it is asked
     /// for, whatever other fault the line has.
     pub fn read(alloc: Global, words: &'a [String]) -> Result<Args<'a>, LineFault>
         ensures ok { IfOk result (λ args. asked_for asked_by ecsview_program words.now
@@ -177,7 +186,7 @@ fn work_of(name: &str, found: &ArgMatches<'_>) -> Option<Work>
 {
     match name {
         "schedule" => Some(Work::Schedule),
-        "lanes" => Some(Work::Lanes),
+        "lanes" => Some(Work::Lanes(part_of(found)?)),
         "races" => Some(Work::Races),
         "diverge" => Some(Work::Diverge),
         "steps" => steps_of(found),

@@ -1,21 +1,24 @@
 // The drawings of a schedule, and of the runs of a trace.
 
-ghost use Rattle.std.specs.Prelude.{◌≡◌, ◌++◌, ◌⊎◌, IfErr, IfOk, OnOk, string_bytes};
+ghost use Rattle.std.specs.Prelude.{◌≡◌, ◌++◌, ◌⊎◌, IfErr, IfOk, OnOk, length, string_bytes};
 ghost use Rattle.std.specs.List.{AllByRecursion};
-ghost use Rattle.ecsview.specs.Drawings.{IsLanesText, IsLawfulRun, IsScheduleText, height_from, lanes_from, lanes_width, longest_from};
+ghost use Rattle.ecsview.specs.Drawings.{IsLanesText, IsLawfulRun, IsScheduleText, drawn_shapes, heading_shapes, height_from, lanes_from, lanes_width, longest_from, part_of as part_in, top_of};
 ghost use Rattle.ecsview.specs.Refusals.{IsBadAmong, IsBadRun, IsUndrawn};
 ghost use Rattle.program.specs.Refused.{IsTraceUnread};
 
+use crate::part::Part;
 use ambiguity_report::report::report;
-use drawing::Shape;
 use drawing::lanes::add_run;
 use drawing::svg::{OPENER, RULES, text_of_drawing};
+use drawing::{Label, Shape, Style, Words};
 use executor_core::Trace;
 use findings::Loaded;
 use program::Fault;
 use program::checking::traces_of;
 use schedule_builder::Built;
+use schedule_drawing::Drawn;
 use schedule_drawing::drawn::draw_schedule;
+use schedule_drawing::titles::{conditions_of, touched_of};
 use std::alloc::{AllocError, Global};
 use std::io::Read;
 use trace_checker::Verdict;
@@ -30,34 +33,115 @@ pub fn schedule_text(alloc: Global, loaded: &Loaded<'_>) -> Result<String, Fault
     let pairs = report(alloc, &loaded.file.built)?;
     let members = loaded.sets.members.as_slice();
     let drawn = draw_schedule(alloc, &loaded.file.built, members, pairs.as_slice())?;
-    let names = loaded.file.names.as_slice();
-    let sets = loaded.sets.names.as_slice();
+    let conditions = conditions_of(alloc, &loaded.file.built)?;
+    let touched = touched_of(alloc, &loaded.file.built)?;
+    let (conditions, touched) = (
+        strs_of(alloc, conditions.as_slice())?,
+        strs_of(alloc, touched.as_slice())?,
+    );
+    let words = Words {
+        names: loaded.file.names.as_slice(),
+        sets: loaded.sets.names.as_slice(),
+        conditions: conditions.as_slice(),
+        touched: touched.as_slice(),
+    };
     let shapes = drawn.shapes.as_slice();
-    Ok(text_of_drawing(alloc, names, sets, drawn.width, drawn.height, shapes)?)
+    Ok(text_of_drawing(alloc, &words, drawn.width, drawn.height, shapes)?)
+}
+
+// These texts, lent.
+fn strs_of<'a>(alloc: Global, texts: &'a [String]) -> Result<Vec<&'a str>, AllocError> {
+    let mut strs = Vec::with_capacity(alloc, texts.len())?;
+    for text in texts {
+        strs.push(text.as_str())?;
+    }
+    Ok(strs)
 }
 
 // What the drawing of runs has to its right.
 const MARGIN: u64 = 100;
 
-/// The drawing of the runs of a trace, as SVG. A run of which a step may not come is refused. One that isn't complete
-/// has its recorded steps drawn.
+/// The drawing of a part of the runs of a trace, as SVG. A run of which a step may not come is refused, whichever are
+/// drawn. One that isn't complete has its recorded steps drawn.
 pub fn lanes_text<T: Read>(
     alloc: Global,
     loaded: &Loaded<'_>,
     trace: &mut T,
+    part: Part,
 ) -> Result<String, Fault>
     ensures text { IfOk result (λ text. IsLanesText OPENER.now RULES.now loaded.now
-        (T.remaining trace.old) (string_bytes text)) }
+        (T.remaining trace.old) part (string_bytes text)) }
     ensures refused { IfErr result (λ fault. IsTraceUnread (T.remaining trace.old) fault
         ⊎ IsUndrawn loaded.now.file.built (T.remaining trace.old) fault) }
 {
     let traces = traces_of(alloc, trace)?;
     check_steps(alloc, &loaded.file.built, traces.as_slice())?;
-    let names = loaded.file.names.as_slice();
-    let width = width_of(traces.as_slice());
+    let conditions = conditions_of(alloc, &loaded.file.built)?;
+    let conditions = strs_of(alloc, conditions.as_slice())?;
+    let words = Words {
+        names: loaded.file.names.as_slice(),
+        sets: &[],
+        conditions: conditions.as_slice(),
+        touched: &[],
+    };
+    let drawn = part_of(traces.as_slice(), part);
+    let lanes = drawn_of(alloc, drawn, part, traces.len())?;
+    let shapes = lanes.shapes.as_slice();
+    Ok(text_of_drawing(alloc, &words, lanes.width, lanes.height, shapes)?)
+}
+
+// The runs of a part.
+fn part_of(traces: &[Trace], part: Part) -> &[Trace]
+    ensures { result.now ≡ part_in part traces.now }
+{
+    let from = (part.first.saturating_sub(1) as usize).min(traces.len());
+    let to = (part.last as usize).min(traces.len()).max(from);
+    &traces[from..to]
+}
+
+// The drawing of some of so many runs.
+fn drawn_of(alloc: Global, drawn: &[Trace], part: Part, count: usize) -> Result<Drawn, AllocError>
+    ensures width { IfOk result (λ lanes. lanes.width ≡ lanes_width (longest_from 0 drawn.now)) }
+    ensures height { IfOk result (λ lanes. lanes.height
+        ≡ height_from (top_of (length drawn.now) count) drawn.now) }
+    ensures shapes { IfOk result (λ lanes. lanes.shapes.items ≡ drawn_shapes part count drawn.now) }
+{
     let mut shapes = Vec::new(alloc);
-    let height = add_runs(alloc, &mut shapes, traces.as_slice())?;
-    Ok(text_of_drawing(alloc, names, &[], width, height, shapes.as_slice())?)
+    let top = add_heading(&mut shapes, part, drawn.len(), count)?;
+    let height = add_runs(alloc, &mut shapes, drawn, part.first.saturating_sub(1), top)?;
+    let width = width_of(drawn);
+    Ok(Drawn {
+        width,
+        height,
+        shapes,
+    })
+}
+
+// Adds what is written above runs that aren't all. Gives where they begin.
+fn add_heading(
+    shapes: &mut Vec<Shape>,
+    part: Part,
+    drawn: usize,
+    count: usize,
+) -> Result<u64, AllocError>
+    ensures shapes { OnOk result (shapes.new.items
+        ≡ shapes.old.items ++ heading_shapes part drawn count) }
+    ensures top { IfOk result (λ top. top ≡ top_of drawn count) }
+{
+    if drawn == count {
+        return Ok(10);
+    }
+    shapes.push(Shape::Text {
+        x: 8,
+        y: 18,
+        label: Label::Runs {
+            first: part.first,
+            last: part.last,
+            all: count as u64,
+        },
+        style: Style::Axis,
+    })?;
+    Ok(30)
 }
 
 // Refuses the first run of which a step may not come.
@@ -97,14 +181,20 @@ fn width_of(traces: &[Trace]) -> u64
     width.max(360)
 }
 
-// Adds the drawings of runs, one below the other. Gives where the last ends.
-fn add_runs(alloc: Global, shapes: &mut Vec<Shape>, traces: &[Trace]) -> Result<u64, AllocError>
+// Adds the drawings of runs behind so many, one below the other. Gives where the last ends.
+fn add_runs(
+    alloc: Global,
+    shapes: &mut Vec<Shape>,
+    traces: &[Trace],
+    before: u32,
+    above: u64,
+) -> Result<u64, AllocError>
     ensures drawn { OnOk result (shapes.new.items
-        ≡ shapes.old.items ++ lanes_from 0 10 traces.now) }
-    ensures end { IfOk result (λ end. end ≡ height_from 10 traces.now) }
+        ≡ shapes.old.items ++ lanes_from before above traces.now) }
+    ensures end { IfOk result (λ end. end ≡ height_from above traces.now) }
 {
-    let mut top = 10;
-    let mut run = 0u32;
+    let mut top = above;
+    let mut run = before;
     for trace in traces {
         run = run.saturating_add(1);
         top = add_run(alloc, shapes, trace.steps(), run, top)?;

@@ -103,8 +103,8 @@ fn answer<F: Read>(
             let text = schedule_text(alloc, &loaded)?;
             Ok(Shown { text, status: 0 })
         }
-        Work::Lanes => {
-            let text = lanes_text(alloc, &loaded, trace)?;
+        Work::Lanes(part) => {
+            let text = lanes_text(alloc, &loaded, trace, part)?;
             Ok(Shown { text, status: 0 })
         }
         Work::Races => {

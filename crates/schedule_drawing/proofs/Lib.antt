@@ -1,2 +1,3 @@
-pub mod Syncs
 mod LoopSteps
+pub mod RaceSteps
+pub mod Syncs

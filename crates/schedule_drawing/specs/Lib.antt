@@ -1,3 +1,4 @@
+pub mod Arrows
 pub mod Drawn
 pub mod Folding
 pub mod Marks

@@ -8,7 +8,7 @@ column level = 140 + 380 * level
 
 -- a row
 abbrev pub line : ℕ → ℕ
-line row = 76 + 84 * row
+line row = 76 + 112 * row
 
 -- the leader of a system, which stands for it: itself where none is listed
 abbrev pub leader_of : List ℕ → ℕ → ℕ

@@ -1,9 +1,9 @@
 // Which systems stand for others where a drawing is folded: of those that one set holds, the first of each level.
 
 ghost use Rattle.std.specs.Prelude.{◌≡◌, map, IfOk};
-ghost use Rattle.model.specs.Lists.{has};
 ghost use Rattle.schedule_drawing.specs.Folding.{holder_of as holder_in, holders_from, holders_of as holders_in, first_from, leader_for as leader_in, leaders_of as leaders_in, first_in_order, is_held_at, led_from};
 
+use crate::arrows::has_member;
 use crate::places::{leader_of, level_of};
 use schedule_builder::Built;
 use std::alloc::{AllocError, Global};
@@ -51,19 +51,12 @@ fn first_set(sets: &[Vec<u32>], system: u32) -> Option<u32>
 {
     let mut number = 0u32;
     for members in sets {
-        if is_member(members.as_slice(), system) {
+        if has_member(members.as_slice(), system) {
             return Some(number);
         }
         number = number.saturating_add(1);
     }
     None
-}
-
-// Whether a system is one of these.
-fn is_member(members: &[u32], system: u32) -> bool
-    ensures { result ≡ has system members.now }
-{
-    members.iter().any(|member| *member == system)
 }
 
 /// The set that holds a system.

@@ -1,16 +1,15 @@
 // The shapes of each thing in a schedule, by itself.
 
-ghost use Rattle.std.specs.Prelude.{◌≡◌, ◌++◌, ◌∷◌, [], ◌<◌, ◌^◌, get_or, if◌then◌else◌, OnOk};
+ghost use Rattle.std.specs.Prelude.{◌≡◌, ◌++◌, ◌∷◌, [], ◌<◌, ◌^◌, if◌then◌else◌, map, OnOk};
+ghost use Rattle.std.specs.List.{list_any};
 ghost use Rattle.drawing.specs.declared.shape.Shape.{Shape};
 ghost use Rattle.drawing.specs.declared.shape.Style.{Style};
-ghost use Rattle.model.specs.steps.Schedule.{condition_at};
 ghost use Rattle.schedule_drawing.specs.Folding.{holder_of as holder_in};
-ghost use Rattle.schedule_drawing.specs.Marks.{box_label, box_shapes, edge_shapes, edges_shapes, sync_shapes, side_shapes, end_shapes, name_shapes, frame_shapes, place_from, diamond_shapes, race_shapes, stands_for_racer, is_framed as is_framed_in, is_at_place, bend as bend_of, is_deferring as is_deferring_in, inset as inset_of};
+ghost use Rattle.schedule_drawing.specs.Marks.{box_label, box_title, box_shapes, edge_shapes, edge_untold, edges_shapes, sync_shapes, side_shapes, end_shapes, name_shapes, frame_shapes, place_from, diamond_shapes, diamond_at, told_diamond, arrow_shapes, arrow_between, arrow_style as arrow_style_in, waits_for_some as waits_for_some_in, is_framed as is_framed_in, is_at_place, bend as bend_of, is_deferring as is_deferring_in, inset as inset_of};
 
+use crate::arrows::{Arrow, first_in, is_told, last_in, members_at};
 use crate::folding::{holder_of, led_by};
 use crate::places::{column_x, leader_of, level_of, row_of, row_y};
-use ambiguity_report::Pair;
-use ambiguity_report::report::Racer;
 use drawing::{Label, Shape, Style};
 use schedule_builder::{Built, Condition};
 use std::alloc::AllocError;
@@ -21,7 +20,15 @@ const WIDTH: u64 = 210;
 const HEIGHT: u64 = 30;
 
 // From a box to the middle of the gap between two rows.
-const GAP: u64 = 27;
+const GAP: u64 = 41;
+
+// From a box to the bottom of a frame that is right behind it, which has room for a condition.
+const FOOT: u64 = 20;
+
+// From the upper edge of a box to where lines leave it, and to where they come to it.
+const OUT: u64 = 21;
+
+const IN: u64 = 9;
 
 /// Adds a sync point: a bar behind the column of its level.
 pub(crate) fn add_sync(shapes: &mut Vec<Shape>, point: u32, bottom: u64) -> Result<(), AllocError>
@@ -58,14 +65,16 @@ pub(crate) fn add_box(
     if leader_of(leaders, system) != system {
         return Ok(());
     }
+    let title = title_of(built, holders, leaders, system);
     let label = label_of(built, holders, leaders, system);
     let x = column_x(level_of(built, system));
     let y = row_y(row_of(built, leaders, system));
-    shapes.push(Shape::Rect {
+    shapes.push(Shape::Titled {
         x,
         y,
         width: WIDTH,
         height: HEIGHT,
+        title,
         style: Style::System,
     })?;
     shapes.push(Shape::Text {
@@ -87,31 +96,65 @@ fn label_of(built: &Built, holders: &[Option<u32>], leaders: &[u32], system: u32
     }
 }
 
-// How far a line between two rows of one column leaves it.
-fn bend(row: u32, other: u32) -> u64
+// The title of the box of a system: what it reads and writes, or of a box that holds several what is written in it.
+fn title_of(built: &Built, holders: &[Option<u32>], leaders: &[u32], system: u32) -> Label
+    ensures { result ≡ box_title built.now leaders.now system (holder_in holders.now system) }
+{
+    match holder_of(holders, system) {
+        Some(_) => label_of(built, holders, leaders, system),
+        None => Label::Touched(system),
+    }
+}
+
+/// How far a line between two rows of one column leaves it.
+pub(crate) fn bend(row: u32, other: u32) -> u64
     ensures { result ≡ bend_of row other }
 {
     let between = u64::from(row.max(other) - row.min(other));
     20 + 8 * between.min(8)
 }
 
-/// Adds the edges that lead to a system.
+/// Adds the edges that lead to a system, but for those for which an arrow stands.
 pub(crate) fn add_edges(
     shapes: &mut Vec<Shape>,
     built: &Built,
     leaders: &[u32],
+    sets: &[Vec<u32>],
+    arrows: &[Arrow],
     system: u32,
 ) -> Result<(), AllocError>
     ensures { OnOk result (shapes.new.items
-        ≡ shapes.old.items ++ edges_shapes built.now leaders.now system) }
+        ≡ shapes.old.items
+        ++ edges_shapes built.now leaders.now (map (λ members. members.items) sets.now)
+        arrows.now system) }
 {
     let Some(found) = built.systems().get(system as usize) else {
         return Ok(());
     };
     for before in found.predecessors() {
-        add_edge(shapes, built, leaders, *before, system)?;
+        let told = is_told(sets, arrows, *before, system);
+        add_untold(shapes, built, leaders, told, *before, system)?;
     }
     Ok(())
+}
+
+// Adds an edge, where it isn't told by an arrow.
+fn add_untold(
+    shapes: &mut Vec<Shape>,
+    built: &Built,
+    leaders: &[u32],
+    told: bool,
+    first: u32,
+    second: u32,
+) -> Result<(), AllocError>
+    ensures { OnOk result (shapes.new.items
+        ≡ shapes.old.items
+        ++ (if told then [] else edge_shapes built.now leaders.now second first)) }
+{
+    if told {
+        return Ok(());
+    }
+    add_edge(shapes, built, leaders, first, second)
 }
 
 // Adds an edge: to a later column straight on, and within one beside it.
@@ -131,8 +174,8 @@ fn add_edge(
         row_of(built, leaders, second),
     );
     let style = edge_style(is_deferring(built, first, second));
-    let (x, y) = (column_x(level) + WIDTH, row_y(row) + 15);
-    let to_y = row_y(to_row) + 15;
+    let (x, y) = (column_x(level) + WIDTH, row_y(row) + OUT);
+    let to_y = row_y(to_row) + IN;
     if level == to_level {
         let out = x + bend(row, to_row);
         shapes.push(Shape::Curve {
@@ -186,7 +229,7 @@ fn is_deferring(built: &Built, first: u32, second: u32) -> bool
 fn inset(set: u32) -> u64
     ensures { result ≡ inset_of set }
 {
-    6 + 5 * u64::from(set % 4)
+    6 + 11 * u64::from(set % 3)
 }
 
 // Whether a member of a set stands in a row of a level.
@@ -227,7 +270,7 @@ pub(crate) fn add_frame(
     let y = row_y(row);
     let top = if opens { y - out } else { y - GAP };
     let bottom = if closes {
-        y + HEIGHT + out
+        y + HEIGHT + FOOT + out
     } else {
         y + HEIGHT + GAP
     };
@@ -302,8 +345,8 @@ fn add_set_name(
 {
     if opens {
         shapes.push(Shape::Text {
-            x: left + 96 + 30 * u64::from(set % 4),
-            y: top.saturating_add(4),
+            x: left + 8 + 70 * u64::from(set / 3 % 3),
+            y: top.saturating_sub(3),
             label: Label::Set(set),
             style: Style::Set,
         })?;
@@ -323,18 +366,54 @@ pub(crate) fn add_diamond(
         ≡ shapes.old.items ++ diamond_shapes built.now leaders.now condition system) }
 {
     let place = place_among(built.conditions(), condition, system);
-    let x = column_x(level_of(built, system)) + 14 + 34 * u64::from(place);
+    let x = column_x(level_of(built, system));
     let y = row_y(row_of(built, leaders, system));
+    add_diamond_at(shapes, condition, place, x, y)
+}
+
+// So many conditions have their texts below a box.
+const MOST_TOLD: u32 = 3;
+
+// Adds a condition at a box: the first below it, with their texts, and others on its upper edge.
+fn add_diamond_at(
+    shapes: &mut Vec<Shape>,
+    condition: u32,
+    place: u32,
+    x: u64,
+    y: u64,
+) -> Result<(), AllocError>
+    requires x { x < 2 ^ 63 }
+    requires y { y < 2 ^ 63 }
+    ensures { OnOk result (shapes.new.items
+        ≡ shapes.old.items ++ diamond_at condition place x y) }
+{
+    let title = Label::Asked(condition);
+    let style = Style::Condition;
+    if place < MOST_TOLD {
+        return add_told(shapes, condition, x, y + 46 + 16 * u64::from(place));
+    }
+    let x = x + 14 + 20 * u64::from(place);
+    shapes.push(Shape::Diamond { x, y, title, style })?;
+    Ok(())
+}
+
+// Adds a condition with its text.
+fn add_told(shapes: &mut Vec<Shape>, condition: u32, x: u64, y: u64) -> Result<(), AllocError>
+    requires { x < 2 ^ 63 }
+    ensures { OnOk result (shapes.new.items ≡ shapes.old.items ++ told_diamond condition x y) }
+{
+    let style = Style::Condition;
     shapes.push(Shape::Diamond {
-        x,
-        y,
-        style: Style::Condition,
+        x: x + 12,
+        y: y.saturating_sub(4),
+        title: Label::Asked(condition),
+        style,
     })?;
     shapes.push(Shape::Text {
-        x: x + 6,
-        y: y - 6,
+        x: x + 24,
+        y,
         label: Label::Condition(condition),
-        style: Style::Condition,
+        style,
     })?;
     Ok(())
 }
@@ -357,81 +436,99 @@ fn place_among(conditions: &[Condition], condition: u32, system: u32) -> u32
     place
 }
 
-/// Adds what races with a system: a red line, and the datum.
-pub(crate) fn add_race(
+/// Adds an arrow between the frames of two sets with these members: from beside the last system of the first to beside the first of the second.
+pub(crate) fn add_arrow(
     shapes: &mut Vec<Shape>,
     built: &Built,
-    leaders: &[u32],
-    pair: Pair,
+    sets: &[Vec<u32>],
+    arrow: Arrow,
 ) -> Result<(), AllocError>
     ensures { OnOk result (shapes.new.items
-        ≡ shapes.old.items ++ race_shapes built.now leaders.now pair) }
+        ≡ shapes.old.items
+        ++ arrow_shapes built.now (map (λ members. members.items) sets.now) arrow) }
 {
-    let first = stands_for(built, pair.first, pair.second);
-    let (level, to_level) = (level_of(built, first), level_of(built, pair.second));
-    let (row, to_row) = (
-        row_of(built, leaders, first),
-        row_of(built, leaders, pair.second),
-    );
-    let out = bend(row, to_row);
-    let (x, y) = (column_x(level), row_y(row) + 15);
-    let (to_x, to_y) = (column_x(to_level), row_y(to_row) + 15);
-    let style = race_style(pair.silenced);
+    let (members, others) = (members_at(sets, arrow.from), members_at(sets, arrow.to));
+    let first = last_in(members, built.order());
+    let second = first_in(others, built.order());
+    let style = arrow_style(built, members, others);
+    add_arrow_between(shapes, built, arrow, first, second, style)
+}
+
+// Adds an arrow from beside a system to beside another.
+fn add_arrow_between(
+    shapes: &mut Vec<Shape>,
+    built: &Built,
+    arrow: Arrow,
+    first: u32,
+    second: u32,
+    style: Style,
+) -> Result<(), AllocError>
+    ensures { OnOk result (shapes.new.items
+        ≡ shapes.old.items ++ arrow_between built.now arrow first second style) }
+{
+    let (level, to_level) = (level_of(built, first), level_of(built, second));
+    let (row, to_row) = (row_of(built, &[], first), row_of(built, &[], second));
+    let side = column_x(level) + WIDTH;
+    let (x, y) = (side + inset(arrow.from), row_y(row) + OUT);
+    let to_y = row_y(to_row) + IN;
+    if level == to_level {
+        let out = side + 28 + bend(row, to_row);
+        shapes.push(Shape::Curve {
+            x,
+            y,
+            near: out,
+            far: out,
+            to_x: side + inset(arrow.to),
+            to_y,
+            style,
+        })?;
+        return Ok(());
+    }
+    let end = column_x(to_level);
     shapes.push(Shape::Curve {
         x,
         y,
-        near: x - out,
-        far: to_x - out,
-        to_x,
+        near: side + 98,
+        far: end - 98,
+        to_x: end - inset(arrow.to),
         to_y,
-        style,
-    })?;
-    shapes.push(Shape::Text {
-        x: x - out - 12,
-        y: (y + to_y) / 2,
-        label: Label::Datum(pair.datum),
         style,
     })?;
     Ok(())
 }
 
-// How what races looks.
-fn race_style(silenced: bool) -> Style
-    ensures { result ≡ (if silenced then Style.Silenced else Style.Race) }
+// How an arrow from some systems to others looks.
+fn arrow_style(built: &Built, members: &[u32], others: &[u32]) -> Style
+    ensures { result ≡ arrow_style_in built.now members.now others.now }
 {
-    if silenced {
-        Style::Silenced
+    order_style(are_waiting(built, members, others))
+}
+
+// The style of an arrow.
+fn order_style(deferring: bool) -> Style
+    ensures { result ≡ (if deferring then Style.DeferringOrder else Style.Order) }
+{
+    if deferring {
+        Style::DeferringOrder
     } else {
-        Style::Race
+        Style::Order
     }
 }
 
-// The system at which what races with another is drawn: itself, or the first that a condition covers.
-fn stands_for(built: &Built, racer: Racer, other: u32) -> u32
-    ensures { result ≡ stands_for_racer built.now racer other }
+// Whether one of some systems waits for commands of one of others.
+fn are_waiting(built: &Built, members: &[u32], others: &[u32]) -> bool
+    ensures { result ≡ list_any (waits_for_some_in built.now members.now) others.now }
 {
-    match racer {
-        Racer::System(system) => system,
-        Racer::Condition(condition) => first_covered(built, condition, other),
-    }
+    others
+        .iter()
+        .any(|other| waits_for_some(built, members, *other))
 }
 
-// The first system that a condition covers; another where there is none.
-fn first_covered(built: &Built, condition: u32, other: u32) -> u32
-    ensures { result ≡ get_or (condition_at built.now condition).covers 0 other }
+// Whether a system waits for commands of one of others.
+fn waits_for_some(built: &Built, members: &[u32], system: u32) -> bool
+    ensures { result ≡ waits_for_some_in built.now members.now system }
 {
-    match built.conditions().get(condition as usize) {
-        Some(found) => first_of(found.covers(), other),
-        None => other,
-    }
-}
-
-// The first of these numbers; another where there is none.
-fn first_of(numbers: &[u32], other: u32) -> u32
-    ensures { result ≡ get_or numbers.now 0 other }
-{
-    match numbers.first() {
-        Some(first) => *first,
-        None => other,
-    }
+    members
+        .iter()
+        .any(|member| is_deferring(built, *member, system))
 }

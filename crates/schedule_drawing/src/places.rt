@@ -16,7 +16,7 @@ const COLUMN: u64 = 380;
 // The first row, and how far each is from the next.
 const TOP: u64 = 76;
 
-const ROW: u64 = 84;
+const ROW: u64 = 112;
 
 /// Where the column of a level stands.
 pub(crate) fn column_x(level: u32) -> u64

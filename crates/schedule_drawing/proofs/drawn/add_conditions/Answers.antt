@@ -1,4 +1,4 @@
-use Rattle.std.proofs.Common.{◌≡◌, ◌++◌, flat_map, refl, ap, sym, ◌∙◌}
+use Rattle.std.proofs.Common.{◌≡◌, ◌++◌, flat_map, refl, ap, ◌∙◌}
 use Rattle.schedule_drawing.specs.Marks.{diamond_shapes}
 use Rattle.schedule_drawing.specs.Drawn.{conditions_from}
 use Rattle.schedule_drawing.proofs.LoopSteps.{counted_next, counted_all}
