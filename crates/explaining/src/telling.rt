@@ -71,22 +71,51 @@ fn add_steps<'a>(
     Ok(())
 }
 
-// What is told of a reason, with an excerpt.
+/// What is told of some marks in a file at a path: a headline, the excerpt, and what to do, each in lines of its own. An empty help is left out.
+pub fn text_of_marks(
+    alloc: Global,
+    site: &Site<'_>,
+    path: &str,
+    headline: &str,
+    marks: [Option<Mark<'_>>; 2],
+    help: &str,
+) -> Result<String, AllocError> {
+    let mut excerpt = Excerpt::new(alloc);
+    add_mark(alloc, &mut excerpt, site, marks[0])?;
+    add_mark(alloc, &mut excerpt, site, marks[1])?;
+    text_around(alloc, excerpt, path, headline, help)
+}
+
+// What is told of a reason, with an excerpt, and the beginning of one line more.
 fn text_of(
     alloc: Global,
     excerpt: Excerpt<'_>,
     path: &str,
     reason: Reason<'_>,
 ) -> Result<String, AllocError> {
+    let gutter = excerpt.gutter();
+    let headline = format!(in alloc; "{reason}")?;
+    let help = text_of_help(alloc, reason.help())?;
+    let mut text = text_around(alloc, excerpt, path, headline.as_str(), help.as_str())?;
+    push_gutter(&mut text, gutter)?;
+    Ok(text)
+}
+
+// A headline, an excerpt, and what to do.
+fn text_around(
+    alloc: Global,
+    excerpt: Excerpt<'_>,
+    path: &str,
+    headline: &str,
+    help: &str,
+) -> Result<String, AllocError> {
     let mut around = excerpt;
     let gutter = around.gutter();
-    let headline = format!(in alloc; "{reason}")?;
     let headline = shown(alloc, headline.as_bytes())?;
     let mut text = String::new(alloc);
     push_line(&mut text, headline.as_str())?;
     around.push(alloc, &mut text, path)?;
-    push_help(alloc, &mut text, gutter, reason)?;
-    push_gutter(&mut text, gutter)?;
+    push_help(alloc, &mut text, gutter, help)?;
     Ok(text)
 }
 
@@ -105,14 +134,13 @@ fn push_line(text: &mut String, words: &str) -> Result<(), AllocError> {
     }
 }
 
-// Adds what to do about a reason, where that is known.
+// Adds what to do, where that is known.
 fn push_help(
     alloc: Global,
     text: &mut String,
     gutter: usize,
-    reason: Reason<'_>,
+    help: &str,
 ) -> Result<(), AllocError> {
-    let help = text_of_help(alloc, reason.help())?;
     if help.is_empty() {
         return Ok(());
     }

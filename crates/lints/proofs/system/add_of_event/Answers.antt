@@ -1,0 +1,5 @@
+use Rattle.lints.proofs.Growing.{adds_both, adds_tested}
+use Rattle.lints.proofs.system.add_of_event.Goals as goal
+
+pub returns : goal.returns
+returns c = rw (← c.as_slice-blocks.ensures.value, ← c.as_slice.ensures.value, ← c.as_slice-2.ensures.value) (adds_both _ _ _ _ _ (adds_tested _ _ _ _ _ c.is_unread_events-is_unread.ensures c.in_ok-add_where.ensures) (adds_tested _ _ _ _ _ c.is_unused_writes-is_unused.ensures c.in_ok-add_where-2.ensures))

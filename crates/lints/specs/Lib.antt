@@ -1,0 +1,4 @@
+pub mod Collected
+pub mod Deeds
+pub mod Skips
+pub mod Lints

@@ -1,0 +1,6 @@
+// What is told of what is likely a mistake in a program file: which word of which line, and what to do.
+#![tactic(auto)]
+
+mod places;
+pub mod telling;
+mod words;
