@@ -1,5 +1,5 @@
 -- What is answered to a command on a program file that is refused.
-use Rattle.std.proofs.Common.{◌≡◌, List, ℕ, Option, Result, Ok, Err, IfOk, IfErr, inl, inr, subst, sym}
+use Rattle.std.proofs.Common.{◌≡◌, List, ℕ, Option, Some, IfSome, Result, Ok, Err, IfOk, IfErr, inl, inr, subst, sym}
 use Rattle.std.specs.Prelude.{◌⊎◌, OnOk}
 use Rattle.findings.specs.Loaded.{IsLoaded}
 use Rattle.findings.specs.Refusals.{IsUnloaded}
@@ -7,14 +7,15 @@ use Rattle.findings.specs.declared.loading.Loaded.{Loaded}
 use Rattle.program.specs.declared.fault.Fault.{Fault}
 use Rattle.program.specs.declared.fault.Fault.TheVariants.{Memory}
 use Rattle.ecsview.specs.Answer.{IsAnswer, IsAnsweredOn}
-use Rattle.ecsview.specs.Explained.{IsToldOf}
+use Rattle.ecsview.specs.Explained.{AsksWhy, IsToldOf}
+use Rattle.toml.specs.Data.{Members}
+use Rattle.toml.specs.Parse.{parse_document}
 use Rattle.ecsview.specs.Refusals.{IsRefusal, IsRefusalOn}
 use Rattle.ecsview.specs.declared.args.Work.{Work}
-use Rattle.ecsview.specs.declared.args.Work.TheVariants.{Explain}
 use Rattle.ecsview.specs.declared.viewing.Shown.{Shown}
 
 -- where a fault for which a file is not accepted is explained, that is the answer
-pub explained_is : (opener rules : List ℕ) (work : Work) (file trace other : Option (List ℕ)) (fault : Fault) (r : Result Shown Fault) → IsUnloaded file fault → OnOk r (work ≡ Explain) → IfOk r (IsToldOf fault)
+pub explained_is : (opener rules : List ℕ) (work : Work) (file trace other : Option (List ℕ)) (fault : Fault) (r : Result Shown Fault) → IsUnloaded file fault → OnOk r (AsksWhy work) → IfOk r (IsToldOf fault)
     → IfOk r (IsAnsweredOn opener rules work file trace other)
 explained_is opener rules work file trace other fault (Ok shown) unloaded asked told = inr (asked, record { fault = fault; refused = unloaded; told = told })
 explained_is opener rules work file trace other fault (Err e) unloaded asked told = tt
@@ -27,10 +28,10 @@ refused_is work file trace other fault (Err told) unloaded (inl same) = inl (sub
 refused_is work file trace other fault (Err told) unloaded (inr spent) = inl (subst (IsUnloaded file) (sym spent) (inl tt))
 
 -- where it is accepted, what the work answers on what it declares is the answer, and what refuses that refuses the work
-pub answered_is : (opener rules : List ℕ) (work : Work) (file trace other : Option (List ℕ)) (l : Loaded) (r : Result Shown Fault) → IsLoaded file l → IfOk r (IsAnswer opener rules work l trace other)
+pub answered_is : (opener rules : List ℕ) (work : Work) (file trace other : Option (List ℕ)) (l : Loaded) (document : Members) (r : Result Shown Fault) → IsLoaded file l → IfSome file (λ text. parse_document text ≡ Some document) → IfOk r (IsAnswer opener rules document work l trace other)
     → IfOk r (IsAnsweredOn opener rules work file trace other)
-answered_is opener rules work file trace other l (Ok shown) loaded answered = inl (record { declared = l; loaded = loaded; answer = answered })
-answered_is opener rules work file trace other l (Err e) loaded answered = tt
+answered_is opener rules work file trace other l document (Ok shown) loaded parsed answered = inl (record { declared = l; loaded = loaded; document = document; parsed = parsed; answer = answered })
+answered_is opener rules work file trace other l document (Err e) loaded parsed answered = tt
 
 pub refused_on : (work : Work) (file trace other : Option (List ℕ)) (l : Loaded) (r : Result Shown Fault) → IsLoaded file l → IfErr r (IsRefusal work l trace other) → IfErr r (IsRefusalOn work file trace other)
 refused_on work file trace other l (Ok shown) loaded refused = tt

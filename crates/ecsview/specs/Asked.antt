@@ -1,5 +1,5 @@
 -- What a command line asks `ecsview` for.
-use Rattle.std.specs.Prelude.{List, [], ◌∷◌, Option, Some, None, codes, option_map, if◌then◌else◌}
+use Rattle.std.specs.Prelude.{true, false, List, [], ◌∷◌, Option, Some, None, codes, option_map, if◌then◌else◌}
 use Rattle.std.specs.Option.{option_map_or}
 use Rattle.std.specs.Str.{bytes_eq}
 use Rattle.clap.specs.Words.{App, Row, Text, first_of}
@@ -18,7 +18,7 @@ ecsview_program = program (codes "ecsview") (
     ∷ command (codes "races") (positional (codes "file") ∷ [])
     ∷ command (codes "diverge") (positional (codes "file") ∷ positional (codes "trace") ∷ positional (codes "other") ∷ [])
     ∷ command (codes "steps") (positional (codes "file") ∷ positional (codes "trace") ∷ number (codes "run") (codes "run") 1 4294967295 ∷ [])
-    ∷ command (codes "explain") (positional (codes "file") ∷ [])
+    ∷ command (codes "explain") (positional (codes "file") ∷ option (codes "deny") (codes "deny") ∷ [])
     ∷ [])
 
 -- the work, and the paths of the program file and of one or two traces, each empty where none is named
@@ -52,6 +52,13 @@ steps_of_run text = option_map (λ run. Steps (Some run)) (number_between 1 4294
 abbrev pub steps_asked : Option Text → Option Work
 steps_asked run = option_map_or steps_of_run run (Some (Steps None))
 
+-- an explanation, in which warnings are denied where that is asked for
+abbrev pub explain_denying : Text → Option Work
+explain_denying text = if bytes_eq text (codes "warnings") then Some (Explain true) else None
+
+abbrev pub explain_asked : Option Text → Option Work
+explain_asked deny = option_map_or explain_denying deny (Some (Explain false))
+
 -- the work of a command of this name
 abbrev pub work_asked : Text → List Row → Option Work
 work_asked name rows = if bytes_eq name (codes "schedule") then Some Schedule
@@ -59,7 +66,7 @@ work_asked name rows = if bytes_eq name (codes "schedule") then Some Schedule
     else (if bytes_eq name (codes "races") then Some Races
     else (if bytes_eq name (codes "diverge") then Some Diverge
     else (if bytes_eq name (codes "steps") then steps_asked (first_of (codes "run") rows)
-    else (if bytes_eq name (codes "explain") then Some Explain else None)))))
+    else (if bytes_eq name (codes "explain") then explain_asked (first_of (codes "deny") rows) else None)))))
 
 abbrev pub asked_by : Text → List Row → Option Asked
 asked_by name rows = option_map (asked_on rows) (work_asked name rows)

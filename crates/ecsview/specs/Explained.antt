@@ -1,5 +1,5 @@
 -- What is explained of a program file: why it is refused, or that it is accepted.
-use Rattle.std.specs.Prelude.{ℕ, ◌≡◌, ◌↔◌, Bool, true, false, List, [], ◌∷◌, ◌++◌, codes, Option, string_bytes}
+use Rattle.std.specs.Prelude.{ℕ, ◌≡◌, ◌↔◌, ◌==◌, ◌&&◌, nat_lt, if◌then◌else◌, Bool, true, false, List, [], ◌∷◌, ◌++◌, codes, decimal, length, Option, string_bytes}
 use Rattle.findings.specs.Refusals.{IsUnloaded}
 use Rattle.model.specs.steps.Ambiguity.{Settled}
 use Rattle.model.specs.steps.Schedule.{Schedule}
@@ -12,6 +12,16 @@ use Rattle.schedule_builder.specs.declared.fault.BuildFault.{BuildFault}
 use Rattle.schedule_builder.specs.declared.fault.BuildFault.TheVariants as build
 use Rattle.script.specs.declared.fault.Cause.{Cause}
 use Rattle.script.specs.declared.fault.Cause.TheVariants as script
+use Rattle.ambiguity_report.specs.Report.{IsReport}
+use Rattle.ambiguity_report.specs.declared.report.Pair.{Pair}
+use Rattle.findings.specs.declared.loading.Loaded.{Loaded}
+use Rattle.lints.specs.Lints.{AreLints}
+use Rattle.lints.specs.declared.lint.Lint.{Lint}
+use Rattle.program_file.specs.Tables.{AreResourcesIn, AreEntitiesIn, AreSetsIn, AreSystemsIn, AreChainsIn}
+use Rattle.program_file.specs.declared.program_file.ProgramFile.{ProgramFile}
+use Rattle.toml.specs.Data.{Members}
+use Rattle.ecsview.specs.declared.args.Work.{Work}
+use Rattle.ecsview.specs.declared.args.Work.TheVariants.{Explain}
 use Rattle.ecsview.specs.declared.viewing.Shown.{Shown}
 
 -- ---- the codes of faults
@@ -86,8 +96,45 @@ abbrev pub accepted_line : Bool → List ℕ
 accepted_line true = codes "accepted, and settled: all runs of it agree" ++ 10 ∷ []
 accepted_line false = codes "accepted, and not settled: runs of it may differ" ++ 10 ∷ []
 
--- it says whether the schedule is settled
-pub record IsAcceptedText (s : Schedule) (text : List ℕ) : Type 0 where
+-- how many warnings there are, of some
+abbrev pub warnings_line : ℕ → List ℕ
+warnings_line n = if n == 0 then [] else (if n == 1 then codes "1 warning" ++ 10 ∷ [] else decimal n ++ (codes " warnings" ++ 10 ∷ []))
+
+-- the status: 1 where warnings are denied, and there are some
+abbrev pub accepted_status : Bool → ℕ → ℕ
+accepted_status denies n = if denies && nat_lt 0 n then 1 else 0
+
+-- a document has these tables, its resources, its entities, its sets, its systems and its chains
+pub record AreTablesOf (document : Members) (tables : ProgramFile) : Type 0 where
+  pub resources : AreResourcesIn document tables.resources
+  pub entities : AreEntitiesIn document tables.entities.items
+  pub sets : AreSetsIn document tables.sets.items
+  pub systems : AreSystemsIn document tables.systems.items
+  pub chains : AreChainsIn document tables.chains.items
+
+-- this is likely a mistake of a document that declares this: by its tables, its schedule, the members of its sets and its report
+pub record AreFound (document : Members) (l : Loaded) (found : List Lint) : Type 0 where
+  pub tables : ProgramFile
+  pub read : AreTablesOf document tables
+  pub pairs : List Pair
+  pub report : IsReport l.file.built pairs
+  pub lints : AreLints tables l.file.built l.sets.members.items pairs found
+
+-- the text ends with how many warnings there are, and with whether the schedule is settled
+pub record IsAcceptedText (s : Schedule) (count : ℕ) (text : List ℕ) : Type 0 where
   pub settled : Bool
   pub told : (settled ≡ true) ↔ Settled s
-  pub same : text ≡ accepted_line settled
+  pub body : List ℕ
+  pub same : text ≡ body ++ (warnings_line count ++ accepted_line settled)
+
+-- of a file that is accepted what is likely a mistake is counted, and told, and whether the schedule is settled
+pub record IsAccepted (document : Members) (l : Loaded) (denies : Bool) (shown : Shown) : Type 0 where
+  pub found : List Lint
+  pub are : AreFound document l found
+  pub text : IsAcceptedText l.file.built (length found) (string_bytes shown.text)
+  pub ends : shown.status ≡ accepted_status denies (length found)
+
+-- it is asked why a file is refused
+abbrev pub AsksWhy : Work → Type 0
+AsksWhy (Explain denies) = Unit {0}
+AsksWhy _ = ⊥

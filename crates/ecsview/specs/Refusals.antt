@@ -60,7 +60,7 @@ IsRefusal (work.Lanes part) l trace other fault = IsTraceUnread trace fault ⊎ 
 IsRefusal work.Races l trace other fault = IsUngiven (length l.file.entities.items) fault ⊎ IsUnwitnessed l.file.built (meanings_of l.file) (first_of l.file) fault
 IsRefusal work.Diverge l trace other fault = IsTraceUnread trace fault ⊎ (IsTraceUnread other fault ⊎ (IsUngiven (length l.file.entities.items) fault ⊎ IsUncompared l.file trace other fault))
 IsRefusal (work.Steps run) l trace other fault = IsTraceUnread trace fault ⊎ (IsUngiven (length l.file.entities.items) fault ⊎ IsUnshown l.file trace fault)
-IsRefusal work.Explain l trace other fault = fault ≡ Memory
+IsRefusal (work.Explain denies) l trace other fault = fault ≡ Memory
 
 -- the same on the bytes of a program file: it is not accepted, or the work is refused on what it declares
 abbrev pub IsRefusalOn : Work → Option (List ℕ) → Option (List ℕ) → Option (List ℕ) → Fault → Type 0

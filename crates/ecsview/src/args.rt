@@ -3,7 +3,7 @@
 ghost use Rattle.std.specs.Prelude.{◌≡◌, IfErr, IfOk, Some, codes};
 ghost use Rattle.clap.specs.Words.{first_of, found_of, rows_of, subcommand_rows_of};
 ghost use Rattle.command_line.specs.Grammar.{IsIdle, IsNoWork, app_of_grammar, asked_for, work_in};
-ghost use Rattle.ecsview.specs.Asked.{asked_by, asked_of, asked_on, ecsview_program, steps_asked, steps_of_run, work_asked};
+ghost use Rattle.ecsview.specs.Asked.{asked_by, asked_of, asked_on, ecsview_program, explain_asked, explain_denying, steps_asked, steps_of_run, work_asked};
 
 use crate::part::{Part, part_of};
 use clap::ArgMatches;
@@ -25,8 +25,8 @@ pub enum Work {
     Diverge,
     /// The worlds after the sync points of a run of a trace, counted from 1, or of all.
     Steps(Option<u32>),
-    /// Why the file is refused.
-    Explain,
+    /// Why the file is refused, or what of it is likely a mistake, and whether that is denied.
+    Explain(bool),
 }
 
 /// What a command line asks for: some work on the schedule that a file declares.
@@ -82,6 +82,14 @@ const RUNS: Argument = Argument {
     range: None,
 };
 
+const DENY: Argument = Argument {
+    id: "deny",
+    long: "deny",
+    value: "warnings",
+    help: "status 1 if there are warnings",
+    range: None,
+};
+
 const GRAMMAR: Grammar = Grammar {
     program: "ecsview",
     subcommands: &[
@@ -112,8 +120,8 @@ const GRAMMAR: Grammar = Grammar {
         },
         Subcommand {
             name: "explain",
-            about: "prints why a file is refused: ecsview explain a.toml (or explain P2)",
-            arguments: &[FILE],
+            about: "prints why a file is refused, or warns: ecsview explain a.toml (or explain P2)",
+            arguments: &[FILE, DENY],
         },
     ],
 };
@@ -121,7 +129,7 @@ const GRAMMAR: Grammar = Grammar {
 impl<'a> Args<'a> {
     /// Reads the words of a command line, of which the first is the program's own name: `schedule FILE`,
     /// `lanes FILE TRACE [--runs A..B]`, `races FILE`, `diverge FILE TRACE OTHER`, `steps FILE TRACE [--run N]` or
-    /// `explain FILE`. Runs are counted from 1, in decimal digits alone. Where a line has `--help` it is asked
+    /// `explain FILE [--deny warnings]`. Runs are counted from 1, in decimal digits alone. Where a line has `--help` it is asked
     /// for, whatever other fault the line has.
     pub fn read(alloc: Global, words: &'a [String]) -> Result<Args<'a>, LineFault>
         ensures ok { IfOk result (λ args. asked_for asked_by ecsview_program words.now
@@ -153,10 +161,7 @@ impl<'a> Args<'a> {
     {
         match work_of(name, found) {
             Some(work) => Ok(Args::of(found, work)),
-            None => Err(LineFault::usage(
-                alloc,
-                "error: runs are counted from 1, in digits alone\n",
-            )),
+            None => Err(LineFault::usage(alloc, misused(name))),
         }
     }
 
@@ -190,7 +195,35 @@ fn work_of(name: &str, found: &ArgMatches<'_>) -> Option<Work>
         "races" => Some(Work::Races),
         "diverge" => Some(Work::Diverge),
         "steps" => steps_of(found),
-        "explain" => Some(Work::Explain),
+        "explain" => explain_of(found),
+        _ => None,
+    }
+}
+
+// What is told where an option of a command of this name has a value that it can't have.
+fn misused(name: &str) -> &'static str {
+    match name {
+        "explain" => "error: what is denied is `warnings`\n",
+        _ => "error: runs are counted from 1, in digits alone\n",
+    }
+}
+
+// An explanation, with what an option denies.
+fn explain_of(found: &ArgMatches<'_>) -> Option<Work>
+    ensures { result ≡ explain_asked (first_of (codes "deny") (rows_of (found_of found.now))) }
+{
+    match found.get_str("deny") {
+        Some(text) => explain_denying(text),
+        None => Some(Work::Explain(false)),
+    }
+}
+
+// The same with what a text denies.
+fn explain_denying(text: &str) -> Option<Work>
+    ensures { result ≡ explain_denying text.now }
+{
+    match text {
+        "warnings" => Some(Work::Explain(true)),
         _ => None,
     }
 }

@@ -1,28 +1,33 @@
 // Why a program file is refused, or that it is accepted.
 
 ghost use Rattle.std.specs.Prelude.{◌≡◌, ◌++◌, ◌⊎◌, ◌∷◌, [], codes, IfErr, IfOk, OnOk, string_bytes, true};
-ghost use Rattle.ecsview.specs.Explained.{IsAcceptedText, IsOfFile, IsToldOf, accepted_line, build_code, code_of, file_code, script_code};
+ghost use Rattle.ecsview.specs.Explained.{AreFound, AsksWhy, IsAccepted, IsAcceptedText, IsOfFile, IsToldOf, accepted_line, accepted_status, build_code, code_of, file_code, script_code, warnings_line};
+ghost use Rattle.toml.specs.View.{table_view};
 ghost use Rattle.program.specs.Fault.{fault_text};
 
 use crate::args::{Args, Work};
 use crate::viewing::Shown;
-use ambiguity_report::report::is_settled;
+use ambiguity_report::report::{is_settled, report};
 use explaining::{Found, explain, telling};
+use findings::Loaded;
+use lints::Lint;
+use lints::linting::lints_of;
 use program::Fault;
-use program_file::{FileFault, document_of};
+use program_file::{FileFault, ProgramFile, document_of};
 use schedule_builder::{BuildFault, Built};
 use script::{Cause, ScriptFault};
 use std::alloc::{AllocError, Global};
 use toml::Table;
+use warnings::telling::text_of_lints;
 
 /// What is answered to some work on a file with these bytes that is refused with a fault: where the file is to be explained, why it is.
 pub fn explained(alloc: Global, args: &Args<'_>, bytes: &[u8], fault: Fault) -> Result<Shown, Fault>
-    ensures asked { OnOk result (args.now.work ≡ Work.Explain) }
+    ensures asked { OnOk result (AsksWhy args.now.work) }
     ensures told { IfOk result (IsToldOf fault) }
     ensures kept { IfErr result (λ told. (told ≡ fault) ⊎ (told ≡ Fault.Memory)) }
 {
     match args.work {
-        Work::Explain if is_of_file(&fault) => {
+        Work::Explain(_) if is_of_file(&fault) => {
             let body = body_of(alloc, bytes, args.file, &fault)?;
             let text = text_of_fault(alloc, &fault, body.as_str())?;
             Ok(Shown { text, status: 1 })
@@ -152,12 +157,76 @@ fn found_in<'a>(
     }
 }
 
-/// What is answered where a file that is to be explained is accepted: whether its schedule is settled.
-pub fn accepted_text(alloc: Global, built: &Built) -> Result<String, AllocError>
-    ensures { IfOk result (λ text. IsAcceptedText built.now (string_bytes text)) }
+/// What is answered where a file with these bytes at a path that is to be explained is accepted, which is this document and declares this: what of it
+/// is likely a mistake, how much of that there is, and whether its schedule is settled. Where warnings are denied and there are some, the status
+/// is 1.
+pub fn accepted(
+    alloc: Global,
+    args: &Args<'_>,
+    bytes: &[u8],
+    document: &Table,
+    loaded: &Loaded<'_>,
+    denies: bool,
+) -> Result<Shown, AllocError>
+    ensures { IfOk result (IsAccepted (table_view document.now) loaded.now denies) }
+{
+    let found = found_of(alloc, document, loaded)?;
+    let count = found.len();
+    let body = text_of_lints(alloc, bytes, document, args.file, found.as_slice())?;
+    let text = accepted_text(alloc, &loaded.file.built, body.as_str(), count)?;
+    Ok(Shown {
+        text,
+        status: accepted_status(denies, count),
+    })
+}
+
+// What is likely a mistake.
+fn found_of(alloc: Global, document: &Table, loaded: &Loaded<'_>) -> Result<Vec<Lint>, AllocError>
+    ensures { IfOk result (λ found. AreFound (table_view document.now) loaded.now found.items) }
+{
+    let tables = match ProgramFile::read(alloc, document) {
+        Ok(tables) => tables,
+        // It was read before, so this is memory.
+        Err(_) => return Err(AllocError),
+    };
+    let built = &loaded.file.built;
+    let pairs = report(alloc, built)?;
+    let members = loaded.sets.members.as_slice();
+    let found = lints_of(alloc, &tables, built, members, pairs.as_slice())?;
+    Ok(found)
+}
+
+// The status, by whether warnings are denied and how many there are.
+fn accepted_status(denies: bool, count: usize) -> u8
+    ensures { result ≡ accepted_status denies count }
+{
+    if denies && 0 < count { 1 } else { 0 }
+}
+
+// The text of so many warnings, and what is told behind them.
+fn accepted_text(
+    alloc: Global,
+    built: &Built,
+    body: &str,
+    count: usize,
+) -> Result<String, AllocError>
+    ensures { IfOk result (λ text. IsAcceptedText built.now count (string_bytes text)) }
 {
     let settled = is_settled(built);
-    String::from_str(alloc, accepted_line(settled))
+    let warnings = warnings_line(alloc, count)?;
+    let line = accepted_line(settled);
+    format!(in alloc; "{body}{warnings}{line}")
+}
+
+// The line that says how many warnings there are, of some.
+fn warnings_line(alloc: Global, count: usize) -> Result<String, AllocError>
+    ensures { IfOk result (λ line. string_bytes line ≡ warnings_line count) }
+{
+    match count {
+        0 => Ok(String::new(alloc)),
+        1 => String::from_str(alloc, "1 warning\n"),
+        _ => format!(in alloc; "{count} warnings\n"),
+    }
 }
 
 // The line of a file that is accepted, by whether its schedule is settled.

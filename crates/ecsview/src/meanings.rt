@@ -13,7 +13,7 @@ use streams::writing::write_whole;
 /// What the code means that stands in place of the file that is to be explained; None where none does.
 pub fn meaning(args: &Args<'_>) -> Option<&'static str> {
     match args.work {
-        Work::Explain => meaning_of(args.file),
+        Work::Explain(_) => meaning_of(args.file),
         _ => None,
     }
 }

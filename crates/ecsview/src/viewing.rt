@@ -6,10 +6,11 @@ ghost use Rattle.ecsview.specs.Refusals.{IsRefusal, IsRefusalOn};
 ghost use Rattle.ecsview.specs.Style.{svg_opener, svg_rules};
 ghost use Rattle.ecsview.specs.Viewed.{IsViewed};
 ghost use Rattle.program.specs.Setup.{AreScriptsOf};
+ghost use Rattle.toml.specs.View.{table_view};
 
 use crate::args::{Args, Work};
 use crate::drawings::{lanes_text, schedule_text};
-use crate::explained::{accepted_text, explained};
+use crate::explained::{accepted, explained};
 use crate::found::{diverge_text, races_text, steps_text};
 use drawing::svg::{OPENER, RULES};
 use findings::Loaded;
@@ -21,6 +22,7 @@ use program_file::document_of;
 use std::alloc::Global;
 use std::io::{Read, Write};
 use streams::writing::write_whole;
+use toml::Table;
 
 /// The answer to a command: the text that is printed, and the exit status.
 #[derive(Drop)]
@@ -79,26 +81,41 @@ fn view_of<F: Read>(
         Err(fault) => return explained(alloc, args, bytes.as_slice(), Fault::from(fault)),
     };
     match load(alloc, &document) {
-        Ok(loaded) => answer(alloc, args.work, loaded, trace, other),
+        Ok(loaded) => {
+            let of = Source {
+                args,
+                bytes: bytes.as_slice(),
+                document: &document,
+            };
+            answer(alloc, of, loaded, trace, other)
+        }
         Err(fault) => explained(alloc, args, bytes.as_slice(), fault),
     }
+}
+
+// What is asked for, and the program file: its bytes, and the document that they are.
+#[derive(Clone, Copy)]
+struct Source<'a> {
+    args: &'a Args<'a>,
+    bytes: &'a [u8],
+    document: &'a Table,
 }
 
 // The same on what a file declares.
 fn answer<F: Read>(
     alloc: Global,
-    work: Work,
+    of: Source<'_>,
     loaded: Loaded<'_>,
     trace: &mut F,
     other: &mut F,
 ) -> Result<Shown, Fault>
     requires { AreScriptsOf loaded.file.built loaded.file.bodies.items }
-    ensures answered { IfOk result (IsAnswer OPENER.now RULES.now work loaded.entry
+    ensures answered { IfOk result (IsAnswer OPENER.now RULES.now (table_view of.entry.document.now) of.entry.args.now.work loaded.entry
         (F.remaining trace.old) (F.remaining other.old)) }
-    ensures refused { IfErr result (IsRefusal work loaded.entry (F.remaining trace.old) (F.remaining
+    ensures refused { IfErr result (IsRefusal of.entry.args.now.work loaded.entry (F.remaining trace.old) (F.remaining
         other.old)) }
 {
-    match work {
+    match of.args.work {
         Work::Schedule => {
             let text = schedule_text(alloc, &loaded)?;
             Ok(Shown { text, status: 0 })
@@ -119,9 +136,9 @@ fn answer<F: Read>(
             let text = steps_text(alloc, loaded.file, trace, run)?;
             Ok(Shown { text, status: 0 })
         }
-        Work::Explain => {
-            let text = accepted_text(alloc, &loaded.file.built)?;
-            Ok(Shown { text, status: 0 })
+        Work::Explain(denies) => {
+            let shown = accepted(alloc, of.args, of.bytes, of.document, &loaded, denies)?;
+            Ok(shown)
         }
     }
 }

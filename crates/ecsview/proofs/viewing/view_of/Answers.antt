@@ -66,7 +66,7 @@ returns-in-Ok-load-clause-answered g c =
     let within : length c.in-Ok.bytes.items ≤ most_bytes = omega (arith, c.in-Ok.bytes.ok.0, c.in-Ok.ensures.within) in
     let short = known-read IsShortFile file c.in-Ok.bytes.items within c.in-Ok.ensures.whole in
     let read = known-read (λ text. parse_document text ≡ Some (table_view c.in-Ok-document_of.document)) file c.as_slice.result.now c.in-Ok-document_of.ensures.ok.1 whole in
-    answered_is _ _ c.args.args.now.work file (g.F.Read.remaining c.args.trace.now) (g.F.Read.remaining c.args.other.now) c.in-Ok-load.loaded c.answer.result (c.in-Ok-load.ensures.loaded file short read) c.answer.ensures.answered
+    answered_is _ _ c.args.args.now.work file (g.F.Read.remaining c.args.trace.now) (g.F.Read.remaining c.args.other.now) c.in-Ok-load.loaded (table_view c.in-Ok-document_of.document) c.answer.result (c.in-Ok-load.ensures.loaded file short read) read c.answer.ensures.answered
 
 pub returns-in-Ok-load-clause-refused : goal.returns-in-Ok-load-clause-refused
 returns-in-Ok-load-clause-refused g c =
