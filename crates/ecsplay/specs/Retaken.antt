@@ -3,17 +3,12 @@ use Rattle.std.specs.Prelude.{ℕ, ◌≡◌, ◌⊎◌, Bool, if◌then◌else�
 use Rattle.std.specs.Io.KnownBytes.{Appends}
 use Rattle.hex.specs.Hex.{encode_lower}
 use Rattle.program.specs.Hosted.{AreScriptsIn}
-use Rattle.program.specs.Served.{Tells}
 use Rattle.program.specs.Setup.{meanings_of_scripts, script_means}
-use Rattle.program.specs.declared.fault.Fault.{Fault as Reported}
-use Rattle.program.specs.declared.fault.Fault.TheVariants as reported
 use Rattle.script.specs.declared.script_body.ScriptBody.{ScriptBody}
 use Rattle.session.specs.Live.{Live, is_lost, state_in}
 use Rattle.session.specs.Records.{IsTakenAgain, head_line}
 use Rattle.sha2.specs.Sha256.{sha256}
 use Rattle.state_text.specs.StateText.{values_text}
-use Rattle.ecsplay.specs.declared.recording.Told.{Told}
-use Rattle.ecsplay.specs.declared.recording.Told.TheVariants as told
 
 -- what a text of a record led to: its entries were taken again by the scripts of a file with these bytes, on one thread, and their replies written,
 -- but for what is left of it, which is cut short if it is anything
@@ -44,9 +39,3 @@ pub record IsReplayedWhole (bytes : List ℕ) (old new : Live ScriptBody) (known
 abbrev pub begun_text : List ℕ → List ℕ → List ℕ
 begun_text file [] = head_line file
 begun_text file (byte ∷ bytes) = byte ∷ bytes
-
--- a record that is refused ends with status 1, and a fault with its own; where memory fails for the line, that is told
-abbrev pub IsReported : Told → ℕ → (Option (List ℕ) × Option (List ℕ)) → Type 0
-IsReported (told.Fault fault) status faults = Tells fault status faults
-IsReported told.TooLong status faults = (status ≡ 1) ⊎ Tells reported.Memory status faults
-IsReported (told.Refused why) status faults = (status ≡ 1) ⊎ Tells reported.Memory status faults

@@ -5,6 +5,7 @@ pub mod Explained
 pub mod Found
 pub mod Meanings
 pub mod Part
+pub mod Recorded
 pub mod Refusals
 pub mod Style
 pub mod Unasked

@@ -21,17 +21,25 @@ IsPartingAt count left beside (parting.Longer n) = ⊥
 IsPartingAt count left beside (parting.After run text other) =
     (run ≡ count) × (string_bytes text ≡ world_text count left) × (string_bytes other ≡ world_text count beside) × (world_text count left ≢ world_text count beside)
 
--- what two traces come to whose runs begin with these states, behind so many runs of each: a run of each is replayed, from the state that the one before
--- it leaves. Where the texts of the two worlds differ after it, it is the one that is told; else the runs behind it decide, and where one trace has
--- no more, how many both have
+-- what two lists come to whose items are taken from these on, behind so many of each, where each leads to a state: an item of each is taken, from where the one
+-- before it led. Where the texts of the two worlds differ after it, it is the one that is told; else the items behind it decide, and where one list has no
+-- more, how many both have
+abbrev pub IsPartingBy : {X S : Type 0} → (S → X → S → Type 0) → (S → X → S → Type 0) → (S → State) → ℕ → S → S → List X → List X → Parting → Type 0
+IsPartingBy Takes TakesBeside state count start beginning [] [] p = p ≡ parting.None count
+IsPartingBy Takes TakesBeside state count start beginning [] (q ∷ others) p = p ≡ parting.Longer count
+IsPartingBy Takes TakesBeside state count start beginning (r ∷ runs) [] p = p ≡ parting.Longer count
+IsPartingBy {X} {S} Takes TakesBeside state count start beginning (r ∷ runs) (q ∷ others) p =
+    (left : S) × (beside : S) × Takes start r left × TakesBeside beginning q beside
+    × (IsPartingAt (count + 1) (state left) (state beside) p
+    ⊎ ((world_text (count + 1) (state left) ≡ world_text (count + 1) (state beside)) × IsPartingBy Takes TakesBeside state (count + 1) left beside runs others p))
+
+-- a run is replayed, from one state to another
+abbrev pub IsRunTo : Schedule → List BodyMeaning → State → Recorded → State → Type 0
+IsRunTo s bodies start r left = IsReplayed (recording s r.sets) bodies start r.steps left
+
+-- what two traces come to whose runs begin with these states, behind so many runs of each
 abbrev pub IsParting : Schedule → List BodyMeaning → ℕ → State → State → List Recorded → List Recorded → Parting → Type 0
-IsParting s bodies count start beginning [] [] p = p ≡ parting.None count
-IsParting s bodies count start beginning [] (q ∷ others) p = p ≡ parting.Longer count
-IsParting s bodies count start beginning (r ∷ runs) [] p = p ≡ parting.Longer count
-IsParting s bodies count start beginning (r ∷ runs) (q ∷ others) p =
-    (left : State) × (beside : State)
-    × IsReplayed (recording s r.sets) bodies start r.steps left × IsReplayed (recording s q.sets) bodies beginning q.steps beside
-    × (IsPartingAt (count + 1) left beside p ⊎ ((world_text (count + 1) left ≡ world_text (count + 1) beside) × IsParting s bodies (count + 1) left beside runs others p))
+IsParting s bodies count start beginning runs others p = IsPartingBy (IsRunTo s bodies) (IsRunTo s bodies) (λ state. state) count start beginning runs others p
 
 -- ---- runs
 

@@ -106,9 +106,9 @@ fn taken(
     }
 }
 
-// What two traces come to, as far as it is known behind a run, where both have so many: what was known before it, else that one of them has no such run,
-// else that the worlds differ.
-fn told_behind(
+/// What two lists of runs come to, as far as it is known behind a run, where both have so many, by the states that it leaves: what was known before
+/// it, else that one of them has no such run, else that the worlds differ.
+pub fn told_behind(
     alloc: Global,
     told: Option<Parting>,
     run: usize,

@@ -20,6 +20,17 @@ use schedule_builder::Built;
 use script::ScriptBody;
 use std::alloc::Global;
 
+/// A story as far as it is told.
+#[derive(Drop)]
+pub struct Story {
+    /// Its text.
+    pub text: String,
+    /// How many runs it has told of or passed over.
+    pub runs: u32,
+    /// The run that is shown, counted from 1, or all.
+    pub asked: Option<u32>,
+}
+
 /// The runs of a trace, taken again one after the other. It has their number, and the world after each sync point of
 /// the run that is asked for, counted from 1, or of all. Each world is printed as one behind the runs before it.
 pub fn story_of(
@@ -42,8 +53,43 @@ pub fn story_of(
     let mut text = String::new(alloc);
     let count = traces.len();
     writeln!(text, "runs {count}")?;
+    let begun = Story {
+        text,
+        runs: 0,
+        asked,
+    };
+    let told = tell_runs(alloc, built, bodies, first, traces, begun)?;
+    Ok(told.text)
+}
+
+/// A story that goes on with these runs, taken again one after the other from a state. Where one is refused, so is the story.
+pub fn tell_runs(
+    alloc: Global,
+    built: &Built,
+    bodies: &mut [ScriptBody],
+    first: State,
+    traces: &[Trace],
+    begun: Story,
+) -> Result<Story, Fault>
+    requires suits { Suits script_suits built.now (map Some bodies.old) first }
+    requires few { begun.runs + length traces.now < 2 ^ 32 }
+    ensures story { IfOk result (λ told. IsStory built.now
+        (meanings_of_scripts built.now bodies.old) begun.asked begun.runs first traces.now
+        (string_bytes begun.text) (string_bytes told.text)) }
+    ensures runs { IfOk result (λ told. told.runs ≡ begun.runs + length traces.now) }
+    ensures asked { IfOk result (λ told. told.asked ≡ begun.asked) }
+    ensures refused { begun.runs ≡ 0 → IfErr result (IsUntold built.now
+        (meanings_of_scripts built.now bodies.old) first traces.now) }
+    ensures fit { OnOk result (AreFit script_suits built.now (map Some bodies.new)) }
+    ensures meanings { meanings_of_scripts built.now bodies.new
+        ≡ meanings_of_scripts built.now bodies.old }
+{
+    let Story {
+        mut text,
+        runs: mut before,
+        asked,
+    } = begun;
     let mut state = first;
-    let mut before = 0u32;
     for trace in traces {
         let part = Part {
             before,
@@ -54,7 +100,11 @@ pub fn story_of(
         state = left;
         before += 1;
     }
-    Ok(text)
+    Ok(Story {
+        text,
+        runs: before,
+        asked,
+    })
 }
 
 // A run: how many come before it, and whether it is shown.

@@ -108,8 +108,8 @@ fn lines_of<'a>(alloc: Global, text: &'a str) -> Result<Vec<&'a str>, AllocError
     Ok(found)
 }
 
-// The first place at which two lists of lines differ, or where both end.
-fn first_apart(lines: &[&str], beside: &[&str]) -> usize
+/// The first place at which two lists of lines differ, or where both end.
+pub fn first_apart(lines: &[&str], beside: &[&str]) -> usize
     ensures { IsFirstApart (map (λ line. line.now) lines.now) (map (λ line. line.now) beside.now)
         result }
 {
@@ -213,8 +213,8 @@ fn push_agreement(
     }
 }
 
-// Adds the first step in which lists differ.
-fn push_place(text: &mut String, place: Option<Place>) -> Result<(), AllocError>
+/// Adds the first step in which the lists of two traces differ.
+pub fn push_place(text: &mut String, place: Option<Place>) -> Result<(), AllocError>
     ensures { OnOk result (string_bytes text.new ≡ string_bytes text.old ++ place_line place) }
 {
     let Some(place) = place else {
@@ -246,8 +246,8 @@ fn push_step(text: &mut String, step: Option<Step>) -> Result<(), AllocError>
     }
 }
 
-// Adds the lines in which the worlds differ, where they do.
-fn push_lines_of(alloc: Global, text: &mut String, parting: &Parting) -> Result<(), AllocError>
+/// Adds the lines in which two worlds differ, where they do.
+pub fn push_lines_of(alloc: Global, text: &mut String, parting: &Parting) -> Result<(), AllocError>
     ensures { OnOk result ((more : List ℕ) × IsApartBy parting.now more
         × (string_bytes text.new ≡ string_bytes text.old ++ more)) }
 {

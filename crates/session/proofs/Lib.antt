@@ -13,7 +13,7 @@ mod NamedFiles
 mod LoadedTexts
 mod LoadReplies
 mod LoadTurns
-mod Retaken
+pub mod Retaken
 mod Noted
 mod AnyMode
 mod Replayed

@@ -1,12 +1,12 @@
 -- Records that are taken again, entry by entry.
-use Rattle.std.proofs.Common.{◌≡◌, ◌<◌, ℕ, ◌+◌, Bool, false, true, not, nat_eq, List, [], ◌∷◌, ◌++◌, length, take, get_or, Option, arith, length-append, refl, sym, ap, ap₂, ◌∙◌, subst}
+use Rattle.std.proofs.Common.{◌≡◌, ◌<◌, ℕ, ◌+◌, Bool, false, true, not, nat_eq, List, [], ◌∷◌, ◌++◌, length, take, drop, get_or, Option, arith, length-append, refl, sym, ap, ap₂, ◌∙◌, subst}
 use lib.Pointwise.{pointwise}
 use Rattle.std.specs.Cmp.Lexicographic.{same_text}
 use Rattle.std.specs.Io.KnownBytes.{Appends}
 use Rattle.std.proofs.lemmas.Bool.{false≢true}
 use Rattle.std.proofs.KnownBytes.{Appends-nil, Appends-trans}
 use Rattle.std.proofs.lemmas.Grind.{flat_map-append}
-use Rattle.std.proofs.lemmas.List.{append_assoc, append-nil}
+use Rattle.std.proofs.lemmas.List.{append_assoc, append-nil, take-append-drop}
 use Rattle.model.specs.access.Access.{Params}
 use Rattle.model.specs.shown.Outcome.{BodyMeaning}
 use Rattle.model.specs.runs.Replays.{IsReplayed}
@@ -39,6 +39,10 @@ yes false h = absurd (false≢true h)
 
 pub told_same : (xs ys : List ℕ) → false ≡ not (pointwise nat_eq xs ys) → xs ≡ ys
 told_same xs ys h = same_text xs ys (yes (pointwise nat_eq xs ys) h)
+
+-- a text that is split has this front
+pub split_behind : (n : ℕ) (text front rest head : List ℕ) → front ≡ take n text → rest ≡ drop n text → front ≡ head → text ≡ head ++ rest
+split_behind n text front rest head is left same = sym (take-append-drop n text) ∙ ap₂ (λ (a b : List ℕ). a ++ b) (sym is ∙ same) (sym left)
 
 -- what begins with a line is some bytes
 pub some_entry : (line rest : List ℕ) (traces : List Recorded) (told : List ℕ) → entries.entry_text (ended line ++ rest) traces told ≡ (ended line ++ rest) ++ (trace_text traces ++ told)

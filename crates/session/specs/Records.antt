@@ -88,9 +88,24 @@ IsReadAs (deed.Does request runs) (Does line asked traces) = (asked_of request �
 IsReadAs (deed.Loads loaded lines) (Loads line load text) = (loaded ≡ load) × (lines.now ≡ text)
 IsReadAs read act = ⊥
 
+-- the traces of what was read
+abbrev pub traces_in : Deed → List Recorded
+traces_in (deed.Does request runs) = runs.items
+traces_in (deed.Loads loaded lines) = []
+
+-- the line of what is recorded, and its traces
+abbrev pub line_of : Act → List ℕ
+line_of (Does line asked traces) = line
+line_of (Loads line load text) = line
+
+abbrev pub traces_of : Act → List Recorded
+traces_of (Does line asked traces) = traces
+traces_of (Loads line load text) = []
+
 -- the first entry of a text was read, and this stands behind it
 pub record IsReadEntry (text : List ℕ) (read : Read) (behind : List ℕ) : Type 0 where
   pub act : Act
+  pub sent : read.line.now ≡ line_of act
   pub spelled : IsSpelled act
   pub is : IsReadAs read.deed act
   pub parted : text ≡ entry_text (record { act = act; told = read.told.now }) ++ behind

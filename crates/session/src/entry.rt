@@ -3,7 +3,7 @@
 ghost use Rattle.std.specs.Prelude.{◌≡◌, ◌++◌, string_bytes, IfOk, IfSome};
 ghost use Rattle.hex.specs.Hex.{encode_lower};
 ghost use Rattle.session.specs.Body.{AreLines, ended};
-ghost use Rattle.session.specs.Records.{IsReadEntry, head_line};
+ghost use Rattle.session.specs.Records.{IsReadEntry, head_line, traces_in};
 ghost use Rattle.streams.specs.Lines.{IsUnended};
 
 use crate::record_fault::EntryFault;
@@ -16,18 +16,34 @@ use trace_checker::read::read_traces;
 
 /// What is recorded.
 #[derive(Drop)]
-pub(crate) enum Deed<'a> {
-    // A request, with the traces of what it ran.
+pub enum Deed<'a> {
+    /// A request, with the traces of what it ran.
     Does(Request<'a>, Vec<Trace>),
-    // A request to load, with the lines behind it.
+    /// A request to load, with the lines behind it.
     Loads(Load, &'a [u8]),
 }
 
-/// An entry of it, with the reply as it was told.
+/// An entry of a record.
 #[derive(Drop)]
-pub(crate) struct Entry<'a> {
-    pub(crate) deed: Deed<'a>,
-    pub(crate) told: &'a [u8],
+pub struct Entry<'a> {
+    /// The line of its request, as it was sent, without its end.
+    pub line: &'a str,
+    /// What is recorded of it.
+    pub deed: Deed<'a>,
+    /// The reply, as it was told.
+    pub told: &'a [u8],
+}
+
+impl Entry<'_> {
+    /// The traces of what it ran, in order.
+    pub fn traces(&self) -> &[Trace]
+        ensures { result.now ≡ traces_in self.now.deed }
+    {
+        match &self.deed {
+            Deed::Does(_, traces) => traces.as_slice(),
+            Deed::Loads(..) => &[],
+        }
+    }
 }
 
 // The first line of a record of the file with this digest.
@@ -38,8 +54,9 @@ pub(crate) fn head_of(alloc: Global, file: [u8; 32]) -> Result<String, AllocErro
     format!(in alloc; "record 1 {digest}\n")
 }
 
-// The first entry of a text, and what stands behind it.
-pub(crate) fn read_entry(alloc: Global, text: &[u8]) -> Result<(Entry<'_>, &[u8]), EntryFault>
+/// The first entry of a text, and what stands behind it. `Cut` where the text ends within it; `Unknown` where it asks
+/// for nothing that can be asked, or no reply to what is done stands behind it. `Text` names what is wrong in its traces.
+pub fn read_entry(alloc: Global, text: &[u8]) -> Result<(Entry<'_>, &[u8]), EntryFault>
     ensures { IfOk result (λ read. IsReadEntry text.now read.0 read.1.now) }
 {
     let Some((line, rest)) = first_line(text) else {
@@ -54,14 +71,14 @@ pub(crate) fn read_entry(alloc: Global, text: &[u8]) -> Result<(Entry<'_>, &[u8]
         };
         let (told, behind) = first_reply(rest)?;
         let deed = Deed::Loads(load, body);
-        return Ok((Entry { deed, told }, behind));
+        return Ok((Entry { line, deed, told }, behind));
     }
     let front = split_traces(rest);
     let (told, behind) = first_reply(front.1)?;
     let request = read_request(alloc, line)?;
     let traces = read_traces(alloc, front.0)?;
     let deed = Deed::Does(request, traces);
-    Ok((Entry { deed, told }, behind))
+    Ok((Entry { line, deed, told }, behind))
 }
 
 // The first line of a text, without its end, and what stands behind it. None where no line has an end.

@@ -3,7 +3,7 @@
 
 mod answering;
 mod body_lines;
-mod entry;
+pub mod entry;
 mod file_line;
 pub mod laws;
 pub mod marks;

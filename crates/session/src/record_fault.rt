@@ -76,8 +76,8 @@ pub enum RecordFault {
 }
 
 impl RecordFault {
-    // What the fault of the entry of this number is reported as.
-    pub(crate) fn at_entry(number: usize, fault: EntryFault) -> Self {
+    /// What the fault of the entry of this number is reported as.
+    pub fn at_entry(number: usize, fault: EntryFault) -> Self {
         match fault {
             EntryFault::Memory => RecordFault::Memory,
             fault => RecordFault::Entry(number, fault),

@@ -1,11 +1,12 @@
 // Records taken again: requests by the session, runs by their traces.
 
-ghost use Rattle.std.specs.Prelude.{◌≡◌, true, false, length, map, string_bytes, IfOk, IsTrue, OnOk, Some};
+ghost use Rattle.std.specs.Prelude.{◌≡◌, ◌++◌, true, false, length, map, string_bytes, IfOk, IfSome, IsTrue, OnOk, Some};
 ghost use Rattle.engine.specs.Meanings.{AreFit, Suits, meanings};
 ghost use Rattle.model.specs.sessions.Sessions.{AreReplayedRuns};
 ghost use Rattle.requests.specs.Asked.{Asked as asked};
 ghost use Rattle.session.specs.Entries.{is_done};
-ghost use Rattle.session.specs.Records.{HasTakenAs, IsRedone, IsTakenAgain, IsTakenAs, head_line};
+ghost use Rattle.session.specs.Live.{is_lost};
+ghost use Rattle.session.specs.Records.{HasTakenAs, IsRedone, IsReadEntry, IsTakenAgain, IsTakenAs, head_line};
 
 use crate::entry::{Deed, Entry, head_of, read_entry};
 use crate::play::{is_recorded, spell};
@@ -55,25 +56,11 @@ pub fn replay_record<'a, B: Body, O: Write>(
         session.old.engine.schedule (map Some bodies.old)) session.old session.new journal.now
         taken.rest.now (O.contents out.old) (O.contents out.new)) }
 {
-    if session.engine.is_spoiled() || !fit(session, bodies) {
-        return Err(RecordFault::Bodies);
-    }
-    let head = head_of(alloc, session.file)?;
-    let Some((front, mut rest)) = journal.split_at_checked(head.len()) else {
-        return Err(RecordFault::File);
-    };
-    if front != head.as_bytes() {
-        return Err(RecordFault::File);
-    }
+    let mut rest = begin_again(alloc, session, bodies, journal)?;
     let mut text = String::new(alloc);
     for entries in 0..usize::MAX {
-        if rest.is_empty() {
+        let Some((entry, behind)) = next_entry(alloc, rest, entries)? else {
             return Ok(Taken { entries, rest });
-        }
-        let (entry, behind) = match read_entry(alloc, rest) {
-            Ok(read) => read,
-            Err(EntryFault::Cut) => return Ok(Taken { entries, rest }),
-            Err(fault) => return Err(RecordFault::at_entry(entries + 1, fault)),
         };
         if let Err(fault) = redo(alloc, session, bodies, &entry, &mut text) {
             return Err(RecordFault::at_entry(entries + 1, fault));
@@ -85,6 +72,49 @@ pub fn replay_record<'a, B: Body, O: Write>(
     Ok(Taken { entries, rest })
 }
 
+/// What stands behind the first line of a record that these bodies are to take again. `Bodies` where they aren't those
+/// of the schedule, or the state of the session is lost; `File` where the first line is another than that of its file.
+pub fn begin_again<'a, B: Body>(
+    alloc: Global,
+    session: &Session<B>,
+    bodies: &[B],
+    journal: &'a [u8],
+) -> Result<&'a [u8], RecordFault>
+    ensures behind { IfOk result (λ rest. journal.now ≡ head_line session.now.file ++ rest.now) }
+    ensures there { OnOk result (is_lost session.now ≡ false) }
+    ensures fit { OnOk result (AreFit B.fits session.now.engine.schedule (map Some bodies.now)) }
+{
+    if session.engine.is_spoiled() || !fit(session, bodies) {
+        return Err(RecordFault::Bodies);
+    }
+    let head = head_of(alloc, session.file)?;
+    let Some((front, rest)) = journal.split_at_checked(head.len()) else {
+        return Err(RecordFault::File);
+    };
+    if front != head.as_bytes() {
+        return Err(RecordFault::File);
+    }
+    Ok(rest)
+}
+
+/// The entry behind so many others, and what stands behind it. None where the text ends, before it or within it.
+pub fn next_entry(
+    alloc: Global,
+    text: &[u8],
+    before: usize,
+) -> Result<Option<(Entry<'_>, &[u8])>, RecordFault>
+    ensures { IfOk result (λ found. IfSome found (λ read. IsReadEntry text.now read.0 read.1.now)) }
+{
+    if text.is_empty() {
+        return Ok(None);
+    }
+    match read_entry(alloc, text) {
+        Ok(read) => Ok(Some(read)),
+        Err(EntryFault::Cut) => Ok(None),
+        Err(fault) => Err(RecordFault::at_entry(before.saturating_add(1), fault)),
+    }
+}
+
 // Whether these bodies are those of the schedule.
 fn fit<B: Body>(session: &Session<B>, bodies: &[B]) -> bool
     ensures { IsTrue result → AreFit B.fits session.now.engine.schedule (map Some bodies.now) }
@@ -93,8 +123,9 @@ fn fit<B: Body>(session: &Session<B>, bodies: &[B]) -> bool
     check_parts(engine.schedule(), bodies, engine.state()).is_ok()
 }
 
-// Takes an entry again, and spells what is replied.
-fn redo<B: Body>(
+/// Takes an entry again, and spells what is replied into `told`. A run is taken again by these bodies, one thread and the recorded order; all else
+/// is answered by the session. It is to be replied as it was.
+pub fn redo<B: Body>(
     alloc: Global,
     session: &mut Session<B>,
     bodies: &mut [B],

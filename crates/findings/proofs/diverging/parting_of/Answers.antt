@@ -3,7 +3,7 @@ use Rattle.std.proofs.Math.Nat.{le-max_left, le-max_right}
 use Rattle.model.specs.shown.Outcome.{BodyMeaning}
 use Rattle.model.proofs.lists.Results.{handed_on}
 use Rattle.program.specs.Setup.{meanings_of_scripts}
-use Rattle.findings.specs.Parting.{IsParting}
+use Rattle.findings.specs.Parting.{IsParting, IsRunTo}
 use Rattle.findings.specs.Refusals.{IsUnparted}
 use Rattle.findings.proofs.Fitting.{fitting_suit, suits_beside}
 use Rattle.findings.proofs.Partings.{IsTaken, IsTold, refused-more, so-far-all, so-far-next, taken-all, taken-more}
@@ -43,10 +43,10 @@ loop-run-preserved c =
       meant = c.taken-in-loop-run.ensures.meanings ∙ then;
       ran = taken-more s ms _ c.args.first c.loop-run.left left c.args.one.now i inv.meant inv.ran one.replayed;
       ran_beside = taken-more s ms _ c.args.second c.loop-run.beside beside c.args.other.now i then inv.ran_beside other.replayed;
-      told = so-far-next s ms c.args.first c.args.second c.args.one.now c.args.other.now i c.loop-run.left c.loop-run.beside left beside c.loop-run.told c.in_ok-told.told
+      told = so-far-next (IsRunTo s ms) (IsRunTo s ms) (λ state. state) c.args.first c.args.second c.args.one.now c.args.other.now i c.loop-run.left c.loop-run.beside left beside c.loop-run.told c.in_ok-told.told
           (subst (λ n. i < n) c.max-run-end.ensures c.loop-run-test.true)
-          (subst (λ (bs : List BodyMeaning). IsTaken s bs c.loop-run.left (slice_get c.args.one.now i) left) inv.meant one.replayed)
-          (subst (λ (bs : List BodyMeaning). IsTaken s bs c.loop-run.beside (slice_get c.args.other.now i) beside) then other.replayed)
+          (subst (λ (bs : List BodyMeaning). IsTaken (IsRunTo s bs) c.loop-run.left (slice_get c.args.one.now i) left) inv.meant one.replayed)
+          (subst (λ (bs : List BodyMeaning). IsTaken (IsRunTo s bs) c.loop-run.beside (slice_get c.args.other.now i) beside) then other.replayed)
           told inv.told;
     }
 
@@ -56,7 +56,7 @@ returns-clause-parting c =
     let s = c.args.built.now in
     let ms = meanings_of_scripts s c.args.bodies.now in
     subst (IsParting s ms 0 c.args.first c.args.second c.args.one.now c.args.other.now) (sym c.unwrap_or.ensures)
-    (so-far-all s ms c.args.first c.args.second c.args.one.now c.args.other.now c.loop-run.run c.loop-run.left c.loop-run.beside c.loop-run.told
+    (so-far-all (IsRunTo s ms) (IsRunTo s ms) (λ state. state) c.args.first c.args.second c.args.one.now c.args.other.now c.loop-run.run c.loop-run.left c.loop-run.beside c.loop-run.told
     (subst (λ n. n ≤ c.loop-run.run) c.max-run-end.ensures c.loop-run-test.false) c.loop-run.invariant.told)
 
 pub returns-clause-replayed : goal.returns-clause-replayed

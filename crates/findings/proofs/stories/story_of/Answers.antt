@@ -1,56 +1,13 @@
-use Rattle.std.proofs.Common.{◌≡◌, ◌+◌, ◌++◌, ℕ, List, length, refl, ap, ap₂, subst, ◌∙◌, inr, string_bytes, arith}
-use Rattle.model.specs.runs.Replays.{IsReplayed}
-use Rattle.model.specs.shown.Outcome.{BodyMeaning}
-use Rattle.model.specs.steps.Schedule.{recording}
+use Rattle.std.proofs.Common.{◌≡◌, ◌++◌, ℕ, List, length, ap, subst, ◌∙◌, string_bytes}
 use Rattle.program.specs.Setup.{meanings_of_scripts}
-use Rattle.program.proofs.Replays.{refused-next, replayed-more}
-use Rattle.model.proofs.lists.Results.{handed_on}
-use Rattle.findings.specs.Refusals.{IsUntold}
-use Rattle.findings.specs.Stories.{IsStory, count_text, told_text}
+use Rattle.findings.specs.Stories.{IsStory, count_text}
 use Rattle.findings.proofs.Fitting.{fitting_suit}
-use Rattle.findings.proofs.StoryRuns.{story_next}
 use Rattle.findings.proofs.stories.story_of.Goals as goal
 
-pub loop-trace-init : goal.loop-trace-init
-loop-trace-init c = record {
-  count = refl;
-  suits = fitting_suit c.args.built.now c.args.bodies.now c.args.first c.requires.fitting c.requires.memories;
-  meant = refl;
-  ran = refl;
-  rest = λ whole h.
-      let text : string_bytes c.writeln.new.self ≡ count_text (length c.args.traces.now) = c.in_ok-writeln.ensures.bytes ∙ ap (λ (xs : List ℕ). xs ++ count_text (length c.args.traces.now)) c.new-text.ensures.bytes in
-      subst (λ (words : List ℕ). IsStory c.args.built.now (meanings_of_scripts c.args.built.now c.args.bodies.now) c.args.asked 0 c.args.first c.args.traces.now words whole) text h;
-}
+pub tell_runs-requires-clause-suits : goal.tell_runs-requires-clause-suits
+tell_runs-requires-clause-suits c = fitting_suit c.args.built.now c.args.bodies.now c.args.first c.requires.fitting c.requires.memories
 
--- one run more
-pub loop-trace-preserved : goal.loop-trace-preserved
-loop-trace-preserved c =
-    let s = c.args.built.now in
-    let ms = meanings_of_scripts s c.args.bodies.now in
-    let inv = c.loop-trace.invariant in
-    let ok = c.in_ok-left.ensures in
-    let r = c.trace-item.result in
-    let left = c.in_ok-left.left in
-    record {
-      count = let e = inv.count in omega arith;
-      suits = ok.suits;
-      meant = c.taken.ensures.meanings ∙ inv.meant;
-      ran = replayed-more s ms (meanings_of_scripts s c.loop-trace.bodies) c.args.first c.loop-trace.state left c.args.traces.now c.loop-trace.trace-index r c.loop-trace-test.true c.trace-item.is inv.meant inv.ran ok.replayed;
-      rest = λ whole h. inv.rest whole
-          (story_next s ms c.args.asked c.loop-trace.before c.loop-trace.state left c.args.traces.now c.loop-trace.trace-index r (string_bytes c.loop-trace.text) _ whole c.loop-trace-test.true c.trace-item.is
-          (subst (λ (bs : List BodyMeaning). IsReplayed (recording s r.sets) bs c.loop-trace.state r.steps left) inv.meant ok.replayed)
-          (c.in_ok-push_str.ensures.bytes ∙ ap (λ (words : List ℕ). string_bytes c.loop-trace.text ++ words) (c.as_str.ensures.value ∙ ok.told
-          ∙ ap₂ (λ is_told (bs : List BodyMeaning). told_text is_told s bs c.loop-trace.state c.loop-trace.before r.steps) c.is_asked.ensures inv.meant))
-          h);
-    }
-
--- the run that is refused
-pub returns-in_err-left-clause-refused : goal.returns-in_err-left-clause-refused
-returns-in_err-left-clause-refused c =
-    let s = c.args.built.now in
-    let ms = meanings_of_scripts s c.args.bodies.now in
-    let inv = c.loop-trace.invariant in
-    let told = c.in_err-left.field-0.0 in
-    handed_on (IsUntold s ms c.args.first c.args.traces.now) c.from_residual-in_err-left.result told c.from_residual-in_err-left.ensures.1
-    (inr (refused-next s ms (meanings_of_scripts s c.loop-trace.bodies) c.args.first c.loop-trace.state c.args.traces.now c.loop-trace.trace-index (c.loop-trace.before + 1) c.trace-item.result told
-    c.loop-trace-test.true c.trace-item.is inv.meant (let e = inv.count in omega arith) inv.ran c.in_err-left.ensures.refused))
+pub returns-clause-story : goal.returns-clause-story
+returns-clause-story c =
+    let text : string_bytes c.writeln.new.self ≡ count_text (length c.args.traces.now) = c.in_ok-writeln.ensures.bytes ∙ ap (λ (xs : List ℕ). xs ++ count_text (length c.args.traces.now)) c.new-text.ensures.bytes in
+    subst (λ (words : List ℕ). IsStory c.args.built.now (meanings_of_scripts c.args.built.now c.args.bodies.now) c.args.asked 0 c.args.first c.args.traces.now words (string_bytes c.in_ok-told.told.text)) text c.in_ok-told.ensures.story

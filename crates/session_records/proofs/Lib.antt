@@ -1,0 +1,4 @@
+pub mod Divergences
+pub mod Entries
+pub mod Retaken
+pub mod Telling
