@@ -13,7 +13,7 @@ use Rattle.ecsview.specs.declared.viewing.Shown.{Shown}
 abbrev pub IsAnswer : List ℕ → List ℕ → Work → Loaded → Option (List ℕ) → Option (List ℕ) → Shown → Type 0
 IsAnswer opener rules Schedule l trace other shown = (shown.status ≡ 0) × IsScheduleText opener rules l (string_bytes shown.text)
 IsAnswer opener rules (Lanes part) l trace other shown = (shown.status ≡ 0) × IsLanesText opener rules l trace part (string_bytes shown.text)
-IsAnswer opener rules Races l trace other shown = (shown.status ≡ 0) × IsRacesText l.file (string_bytes shown.text)
+IsAnswer opener rules (Races number) l trace other shown = (shown.status ≡ 0) × IsRacesText l.file number (string_bytes shown.text)
 IsAnswer opener rules Diverge l trace other shown = IsDivergeText l.file trace other shown.status (string_bytes shown.text)
 IsAnswer opener rules (Steps run) l trace other shown = (shown.status ≡ 0) × IsStepsText l.file trace run (string_bytes shown.text)
 IsAnswer opener rules Explain l trace other shown = (shown.status ≡ 0) × IsAcceptedText l.file.built (string_bytes shown.text)

@@ -1,5 +1,5 @@
 -- What a command line asks `ecsview` for.
-use Rattle.std.specs.Prelude.{List, [], ◌∷◌, Option, Some, None, codes, option_map, if◌then◌else◌}
+use Rattle.std.specs.Prelude.{◌+◌, List, [], ◌∷◌, Option, Some, None, codes, option_map, if◌then◌else◌}
 use Rattle.std.specs.Option.{option_map_or}
 use Rattle.std.specs.Str.{bytes_eq}
 use Rattle.clap.specs.Words.{App, Row, Text, first_of}
@@ -15,7 +15,7 @@ abbrev pub ecsview_program : App
 ecsview_program = program (codes "ecsview") (
     command (codes "schedule") (positional (codes "file") ∷ [])
     ∷ command (codes "lanes") (positional (codes "file") ∷ positional (codes "trace") ∷ option (codes "runs") (codes "runs") ∷ [])
-    ∷ command (codes "races") (positional (codes "file") ∷ [])
+    ∷ command (codes "races") (positional (codes "file") ∷ number (codes "after") (codes "after") 0 4294967294 ∷ [])
     ∷ command (codes "diverge") (positional (codes "file") ∷ positional (codes "trace") ∷ positional (codes "other") ∷ [])
     ∷ command (codes "steps") (positional (codes "file") ∷ positional (codes "trace") ∷ number (codes "run") (codes "run") 1 4294967295 ∷ [])
     ∷ command (codes "explain") (positional (codes "file") ∷ [])
@@ -52,11 +52,18 @@ steps_of_run text = option_map (λ run. Steps (Some run)) (number_between 1 4294
 abbrev pub steps_asked : Option Text → Option Work
 steps_asked run = option_map_or steps_of_run run (Some (Steps None))
 
+-- the races of the run behind so many, of the first where no number is named
+abbrev pub races_behind : Text → Option Work
+races_behind text = option_map (λ runs. Races (runs + 1)) (number_between 0 4294967294 text)
+
+abbrev pub races_asked : Option Text → Option Work
+races_asked after = option_map_or races_behind after (Some (Races 1))
+
 -- the work of a command of this name
 abbrev pub work_asked : Text → List Row → Option Work
 work_asked name rows = if bytes_eq name (codes "schedule") then Some Schedule
     else (if bytes_eq name (codes "lanes") then option_map (λ part. Lanes part) (part_asked (first_of (codes "runs") rows))
-    else (if bytes_eq name (codes "races") then Some Races
+    else (if bytes_eq name (codes "races") then races_asked (first_of (codes "after") rows)
     else (if bytes_eq name (codes "diverge") then Some Diverge
     else (if bytes_eq name (codes "steps") then steps_asked (first_of (codes "run") rows)
     else (if bytes_eq name (codes "explain") then Some Explain else None)))))

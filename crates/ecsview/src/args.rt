@@ -3,7 +3,7 @@
 ghost use Rattle.std.specs.Prelude.{◌≡◌, IfErr, IfOk, Some, codes};
 ghost use Rattle.clap.specs.Words.{first_of, found_of, rows_of, subcommand_rows_of};
 ghost use Rattle.command_line.specs.Grammar.{IsIdle, IsNoWork, app_of_grammar, asked_for, work_in};
-ghost use Rattle.ecsview.specs.Asked.{asked_by, asked_of, asked_on, ecsview_program, steps_asked, steps_of_run, work_asked};
+ghost use Rattle.ecsview.specs.Asked.{asked_by, asked_of, asked_on, ecsview_program, races_asked, races_behind, steps_asked, steps_of_run, work_asked};
 
 use crate::part::{Part, part_of};
 use clap::ArgMatches;
@@ -19,8 +19,8 @@ pub enum Work {
     Schedule,
     /// A drawing of these runs of a trace.
     Lanes(Part),
-    /// A witness for each pair that races.
-    Races,
+    /// A witness for each pair that races, in the run of this number.
+    Races(u32),
     /// Where two traces part.
     Diverge,
     /// The worlds after the sync points of a run of a trace, counted from 1, or of all.
@@ -82,6 +82,14 @@ const RUNS: Argument = Argument {
     range: None,
 };
 
+const AFTER: Argument = Argument {
+    id: "after",
+    long: "after",
+    value: "N",
+    help: "looks at the run behind N runs; at the first if left out",
+    range: Some((0, 4_294_967_294)),
+};
+
 const GRAMMAR: Grammar = Grammar {
     program: "ecsview",
     subcommands: &[
@@ -98,7 +106,7 @@ const GRAMMAR: Grammar = Grammar {
         Subcommand {
             name: "races",
             about: "prints two orders for each pair that races: ecsview races a.toml",
-            arguments: &[FILE],
+            arguments: &[FILE, AFTER],
         },
         Subcommand {
             name: "diverge",
@@ -120,8 +128,9 @@ const GRAMMAR: Grammar = Grammar {
 
 impl<'a> Args<'a> {
     /// Reads the words of a command line, of which the first is the program's own name: `schedule FILE`,
-    /// `lanes FILE TRACE [--runs A..B]`, `races FILE`, `diverge FILE TRACE OTHER`, `steps FILE TRACE [--run N]` or
-    /// `explain FILE`. Runs are counted from 1, in decimal digits alone. Where a line has `--help` it is asked
+    /// `lanes FILE TRACE [--runs A..B]`, `races FILE [--after N]`, `diverge FILE TRACE OTHER`,
+    /// `steps FILE TRACE [--run N]` or `explain FILE`. Runs are counted from 1, N of `--after` from 0, all spelled in
+    /// decimal digits alone. Where a line has `--help` it is asked
     /// for, whatever other fault the line has.
     pub fn read(alloc: Global, words: &'a [String]) -> Result<Args<'a>, LineFault>
         ensures ok { IfOk result (λ args. asked_for asked_by ecsview_program words.now
@@ -187,12 +196,30 @@ fn work_of(name: &str, found: &ArgMatches<'_>) -> Option<Work>
     match name {
         "schedule" => Some(Work::Schedule),
         "lanes" => Some(Work::Lanes(part_of(found)?)),
-        "races" => Some(Work::Races),
+        "races" => races_of(found),
         "diverge" => Some(Work::Diverge),
         "steps" => steps_of(found),
         "explain" => Some(Work::Explain),
         _ => None,
     }
+}
+
+// The races of the run behind as many as an option names, or of the first.
+fn races_of(found: &ArgMatches<'_>) -> Option<Work>
+    ensures { result ≡ races_asked (first_of (codes "after") (rows_of (found_of found.now))) }
+{
+    match found.get_str("after") {
+        Some(text) => races_behind(text),
+        None => Some(Work::Races(1)),
+    }
+}
+
+// The races of the run behind so many.
+fn races_behind(text: &str) -> Option<Work>
+    ensures { result ≡ races_behind text.now }
+{
+    let runs = number_between(text, 0, u32::MAX - 1)?;
+    Some(Work::Races(runs + 1))
 }
 
 // The steps of the run that an option names, or of all.

@@ -107,8 +107,8 @@ fn answer<F: Read>(
             let text = lanes_text(alloc, &loaded, trace, part)?;
             Ok(Shown { text, status: 0 })
         }
-        Work::Races => {
-            let text = races_text(alloc, loaded.file)?;
+        Work::Races(number) => {
+            let text = races_text(alloc, loaded.file, number)?;
             Ok(Shown { text, status: 0 })
         }
         Work::Diverge => {
