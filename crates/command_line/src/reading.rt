@@ -20,7 +20,7 @@ const FILE: Argument = Argument {
     id: "file",
     long: "",
     value: "FILE",
-    help: "the program file",
+    help: "the program file; exit status 1: refused, 2: usage, 3: input, output",
     range: None,
 };
 
@@ -36,7 +36,7 @@ const WORKERS: Argument = Argument {
     id: "workers",
     long: "workers",
     value: "W",
-    help: "how many worker threads, 0 to 64, 0 (one thread) if left out",
+    help: "how many workers, 0 to 64; 0 (one thread) if left out",
     range: Some((0, 64)),
 };
 
@@ -44,7 +44,7 @@ const RECORD: Argument = Argument {
     id: "record",
     long: "trace",
     value: "OUT",
-    help: "the file in which the steps of the runs are recorded; none if left out",
+    help: "the file to record the runs in; none if left out",
     range: None,
 };
 
@@ -52,7 +52,7 @@ const TRACE: Argument = Argument {
     id: "trace",
     long: "",
     value: "TRACE",
-    help: "the file of recorded runs",
+    help: "the file of recorded runs; exit status 1: one isn't complete",
     range: None,
 };
 
@@ -61,22 +61,22 @@ const GRAMMAR: Grammar = Grammar {
     subcommands: &[
         Subcommand {
             name: "run",
-            about: "runs the schedule of a program file and prints the world",
+            about: "runs a file and prints the world: ecsrun run a.toml --times 9",
             arguments: &[FILE, TIMES, WORKERS, RECORD],
         },
         Subcommand {
             name: "check",
-            about: "prints what the schedule of a program file says of recorded runs",
+            about: "prints what a schedule says of runs: ecsrun check a.toml a.trace",
             arguments: &[FILE, TRACE],
         },
         Subcommand {
             name: "replay",
-            about: "takes the recorded runs of a program file again, on one thread, and prints the world",
+            about: "takes recorded runs again: ecsrun replay a.toml a.trace",
             arguments: &[FILE, TRACE],
         },
         Subcommand {
             name: "ambiguities",
-            about: "prints which systems of a program file race",
+            about: "prints which systems race: ecsrun ambiguities a.toml",
             arguments: &[FILE],
         },
     ],

@@ -46,7 +46,7 @@ const FILE: Argument = Argument {
     id: "file",
     long: "",
     value: "FILE",
-    help: "the program file",
+    help: "the program file; exit status 1: refused, 2: usage, 3: input, output",
     range: None,
 };
 
@@ -54,7 +54,7 @@ const WORKERS: Argument = Argument {
     id: "workers",
     long: "workers",
     value: "W",
-    help: "how many worker threads, 0 to 64, 0 (one thread) if left out",
+    help: "how many workers, 0 to 64; 0 (one thread) if left out",
     range: Some((0, 64)),
 };
 
@@ -87,12 +87,12 @@ const GRAMMAR: Grammar = Grammar {
     subcommands: &[
         Subcommand {
             name: "play",
-            about: "keeps the engine of a program file, and answers requests, a line each",
+            about: "keeps an engine, and answers requests: ecsplay play a.toml",
             arguments: &[FILE, WORKERS, RECORD, FROM],
         },
         Subcommand {
             name: "replay",
-            about: "takes a recorded session again, on one thread, and prints its replies",
+            about: "takes a recorded session again: ecsplay replay a.toml a.record",
             arguments: &[FILE, RECORDED],
         },
     ],

@@ -120,7 +120,7 @@ const GRAMMAR: Grammar = Grammar {
         },
         Subcommand {
             name: "explain",
-            about: "prints why a file is refused, or warns: ecsview explain a.toml (or explain P2)",
+            about: "why a file is refused, or what a code means: ecsview explain a.toml",
             arguments: &[FILE, DENY],
         },
     ],
