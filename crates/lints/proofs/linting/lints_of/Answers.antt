@@ -1,9 +1,12 @@
 use Rattle.std.proofs.Common.{◌≡◌, ◌∙◌, Bool, List, Vec, ap, length, subst}
 use Rattle.std.specs.declared.alloc.Global.{Global}
 use Rattle.kinds.specs.declared.value.Value.{Value}
+use Rattle.program_file.specs.declared.program_file.ChainTable.{ChainTable}
+use Rattle.program_file.specs.declared.program_file.ItemTable.{ItemTable}
 use Rattle.program_file.specs.declared.program_file.SystemTable.{SystemTable}
 use Rattle.lints.specs.Collected.{Adds, Among}
-use Rattle.lints.specs.Lints.{IsLint, IsOfTable, present_kinds}
+use Rattle.lints.specs.Lints.{IsLint, IsOfChain, IsOfTable, present_kinds}
+use Rattle.lints.specs.Repeats.{IsOfSetItem}
 use Rattle.lints.specs.declared.lint.Lint.{Lint}
 use Rattle.lints.proofs.Growing.{adds_both}
 use Rattle.lints.proofs.linting.lints_of.Goals as goal
@@ -23,5 +26,7 @@ returns c =
     subst (λ (start : List Lint). Adds (IsLint c.args.file.now c.args.built.now c.args.members.now c.args.pairs.now) start c.add_of_races.new.found.items) c.new-found.ensures.items
     (adds_both _ _ _ _ _ (tables_as _ _ _ _ _ _ known c.as_slice-systems.ensures.value c.in_ok-add_of_systems.ensures)
     (adds_both _ _ _ _ _ c.in_ok-add_of_sets.ensures
+    (adds_both _ _ _ _ _ (subst (λ (sets : List ItemTable). Adds (Among (length sets) (IsOfSetItem sets)) _ _) c.as_slice-3.ensures.value c.in_ok-add_of_set_items.ensures)
+    (adds_both _ _ _ _ _ (subst (λ (chains : List ChainTable). Adds (Among (length chains) (IsOfChain chains)) _ _) c.as_slice-4.ensures.value c.in_ok-add_of_chains.ensures)
     (adds_both _ _ _ _ _ c.in_ok-add_of_event_kinds.ensures
-    (adds_both _ _ _ _ _ c.in_ok-add_of_starts.ensures c.in_ok-add_of_races.ensures))))
+    (adds_both _ _ _ _ _ c.in_ok-add_of_starts.ensures c.in_ok-add_of_races.ensures))))))
