@@ -111,6 +111,11 @@ impl<T: Task> Lead<T> {
         Ok(number)
     }
 
+    /// The slot of the job that is posted next. None where each holds a job that is not collected.
+    pub fn next_slot(&self) -> Option<usize> {
+        self.free.last().copied()
+    }
+
     /// Rings for a hand, and wakes one that sleeps.
     pub fn call_hand(&self) {
         self.bells.hands.ring_one();
