@@ -116,6 +116,11 @@ impl<T: Task> Lead<T> {
         self.bells.hands.ring_one();
     }
 
+    /// Rings for all hands, and wakes those that sleep.
+    pub fn call_all(&self) {
+        self.bells.hands.ring_all();
+    }
+
     // Looks at one slot, and collects what is finished there.
     fn collect_slot(&mut self, slot: usize) -> Option<(JobNumber, T::Outcome)>
         requires { slot < lead_slots self.old }

@@ -1,0 +1,2 @@
+pub mod AreOut
+pub mod Holds
