@@ -1,5 +1,5 @@
 -- What each step adds to the view of the seat that makes it.
-use Rattle.std.specs.Prelude.{ℕ, zero, suc, ◌≡◌, ◌≢◌, ◌+◌, ◌≤◌, true, false, List, [], ◌∷◌, ◌++◌, drop, length, ◌⊎◌}
+use Rattle.std.specs.Prelude.{ℕ, zero, suc, ◌≡◌, ◌≢◌, ◌+◌, ◌-◌, ◌^◌, ◌<◌, ◌≤◌, Result, MatchResult, true, false, List, [], ◌∷◌, ◌++◌, drop, length, ◌⊎◌}
 use mathlib.Core.Option.{some}
 use lib.ListN.{get_elem?}
 use Rattle.job_board.specs.declared.view.View.{View}
@@ -52,6 +52,12 @@ module _ {J O : Type 0} where
   -- the lead has not collected the job of this number
   abbrev pub Uncollected : View J O → ℕ → Type 0
   Uncollected v n = (at : ℕ) (o : O) → get_elem? v.collected at ≢ some (n, o)
+
+  -- a post on a board with so many slots: a job is posted under the next number where a slot is free and a number left, else it comes back
+  abbrev pub IsPost : ℕ → J → View J O → View J O → Result ℕ J → Type 0
+  IsPost slots job before after result = MatchResult result
+      (λ n. (n ≡ length before.posted + 1) × (after ≡ after_post before n job) × (length before.posted < slots + length before.collected) × (n < 2 ^ 62))
+      (λ j. (j ≡ job) × (after ≡ before) × ((length before.posted ≡ slots + length before.collected) ⊎ (length before.posted ≡ 2 ^ 62 - 1)))
 
   -- the numbers of what is posted rise from 1, and what is collected was posted
   abbrev pub IsTally : View J O → Type 0

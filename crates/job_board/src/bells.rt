@@ -25,11 +25,13 @@ pub trait Ring {
     fn ring_all(&self);
 }
 
-/// A bell: a count of its rings, on which others sleep.
+/// A bell: a count of its rings, on which others sleep. It has two lines of memory to itself, so that a ring doesn't take the line from those who look
+/// at another bell.
 #[derive(Default, Drop)]
 pub struct Bell {
     rings: AtomicU64,
     sleepers: AtomicU64,
+    _rest: [u64; 14],
 }
 
 impl Ring for Bell {

@@ -125,6 +125,22 @@ impl<T: Task> Hand<T> {
         None
     }
 
+    /// Takes the job that waits in a slot, with its number. None where it gets none there, or the board has no such slot. It waits for nobody.
+    pub fn try_take_at(&mut self, slot: usize) -> Option<(JobNumber, T::Job)>
+        ensures taken { MatchOption result
+            ((gained : List (ℕ × ℕ))
+            × (hand_view self.new ≡ having_read (hand_view self.old) gained))
+            (λ t. (hand_view self.new ≡ after_take
+            (having_read (hand_view self.old) ((slot, posted_word t.0) ∷ [])) t.0 slot t.1)
+            × HasJob (hand_view self.new) t.0 slot t.1) }
+        ensures slots { hand_slots self.new ≡ hand_slots self.old }
+    {
+        if slot >= self.slots {
+            return None;
+        }
+        self.try_slot(slot)
+    }
+
     /// Whether the board is closed.
     pub fn look_closed(&mut self) -> bool
         ensures seen { (found : ℕ)

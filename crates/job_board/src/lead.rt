@@ -38,9 +38,9 @@ pub struct Lead<T: Task> {
 }
 
 impl<T: Task> Lead<T> {
-    ghost use Rattle.std.specs.Prelude.{ℕ, ◌≢◌, ◌⊎◌, ◌-◌, List, [], ◌∷◌, MatchOption, MatchResult, IfOk};
+    ghost use Rattle.std.specs.Prelude.{ℕ, ◌≢◌, ◌⊎◌, ◌-◌, List, [], ◌∷◌, MatchOption, IfOk};
     ghost use Rattle.job_board.specs.Words.{finished_word};
-    ghost use Rattle.job_board.specs.Views.{opener, opened, having_read, after_post, after_collect, after_close, HasPosted, Uncollected, NoneFinished, FoundOutcome};
+    ghost use Rattle.job_board.specs.Views.{opener, opened, having_read, after_post, after_collect, after_close, HasPosted, Uncollected, NoneFinished, FoundOutcome, IsPost};
     ghost use Rattle.job_board.specs.Ends.{lead_view, lead_slots, lead_table, lead_bell};
 
     // A lead that takes its seat at a new board, and makes each slot its own.
@@ -76,18 +76,24 @@ impl<T: Task> Lead<T> {
         })
     }
 
-    /// Posts a job under the next number. Hands it back where every slot holds a job that is not collected, or no number is left.
+    /// Posts a job under the next number, and rings for a hand. Hands the job back where every slot holds a job that is not collected, or no number is
+    /// left.
     pub fn post(&mut self, job: T::Job) -> Result<JobNumber, T::Job>
         requires { (lead_view self.old).closed ≡ false }
-        ensures posted { MatchResult result
-            (λ n. (n ≡ length (lead_view self.old).posted + 1)
-            × (lead_view self.new ≡ after_post (lead_view self.old) n job)
-            × (length (lead_view self.old).posted
-            < lead_slots self.old + length (lead_view self.old).collected) × (n < 2 ^ 62))
-            (λ j. (j ≡ job) × (lead_view self.new ≡ lead_view self.old)
-            × ((length (lead_view self.old).posted
-            ≡ lead_slots self.old + length (lead_view self.old).collected)
-            ⊎ (length (lead_view self.old).posted ≡ 2 ^ 62 - 1))) }
+        ensures posted { IsPost (lead_slots self.old) job (lead_view self.old) (lead_view self.new)
+            result }
+        ensures slots { lead_slots self.new ≡ lead_slots self.old }
+    {
+        let number = self.post_quietly(job)?;
+        self.call_hand();
+        Ok(number)
+    }
+
+    /// Posts a job as `post` does, but rings for no hand: one that is awake and looks takes it, until `call_hand` rings for it.
+    pub fn post_quietly(&mut self, job: T::Job) -> Result<JobNumber, T::Job>
+        requires { (lead_view self.old).closed ≡ false }
+        ensures posted { IsPost (lead_slots self.old) job (lead_view self.old) (lead_view self.new)
+            result }
         ensures slots { lead_slots self.new ≡ lead_slots self.old }
     {
         if self.posted == LAST {
@@ -102,8 +108,17 @@ impl<T: Task> Lead<T> {
         let _ = words.exchange(&mut self.seat, slot, Some(Content::Job(job)));
         words.swap::<Post>(&mut self.seat, slot, word);
         self.posted = number;
-        self.bells.hands.ring_one();
         Ok(number)
+    }
+
+    /// The slot of the job that is posted next. None where each holds a job that is not collected.
+    pub fn next_slot(&self) -> Option<usize> {
+        self.free.last().copied()
+    }
+
+    /// Rings for a hand, and wakes one that sleeps.
+    pub fn call_hand(&self) {
+        self.bells.hands.ring_one();
     }
 
     // Looks at one slot, and collects what is finished there.

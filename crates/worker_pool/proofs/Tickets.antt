@@ -1,12 +1,12 @@
 -- Tickets of jobs that are out, as jobs are posted and outcomes collected.
-use Rattle.std.proofs.Common.{◌≡◌, ◌≢◌, ℕ, zero, suc, ◌+◌, ◌<◌, ◌≤◌, List, [], ◌∷◌, ◌++◌, length, remove, slice_get, slice_index_or, IsSomeAnd, IfSome, IfNone, IfErr, OnOk, Result, Ok, Err, Option, Some, None, map, length-append, sym, refl, ap, ◌∙◌, subst, ⊎_elim, arith}
+use Rattle.std.proofs.Common.{◌≡◌, ◌≢◌, ℕ, zero, suc, ◌+◌, ◌<◌, ◌≤◌, List, [], ◌∷◌, ◌++◌, length, remove, slice_get, slice_index_or, IsSomeAnd, IfSome, IfNone, IfErr, MatchOption, OnOk, Result, Ok, Err, Option, Some, None, map, length-append, sym, refl, ap, ◌∙◌, subst, ⊎_elim, arith}
 use mathlib.Core.Option.{some, some-injective, some-ne-none}
 use lib.ListN.{get_elem?}
 use Rattle.std.proofs.lemmas.List.{length-map, map-append}
 use Rattle.std.proofs.lemmas.List.Edits.{length-remove}
 use Rattle.atomic_table.proofs.Lists.{at_longer, at_last, at_map}
 use Rattle.job_board.specs.declared.view.View.{View}
-use Rattle.job_board.specs.Views.{having_read, after_post, after_collect, HasPosted, Uncollected, IsTally}
+use Rattle.job_board.specs.Views.{having_read, after_post, after_collect, after_take, FoundJob, HasJob, HasPosted, MissedAll, Uncollected, IsTally}
 use Rattle.job_board.proofs.Places.{within, at_end}
 use Rattle.column_store.proofs.Lists.{map-remove as map_remove}
 use Rattle.worker_pool.specs.declared.desk.Ticket.{Ticket}
@@ -228,3 +228,12 @@ module _ {A : Type 0} (after : List A) where
     pub lost_of : (P : A → Type 0) (o : Option D) → IfNone o (P a) → IfNone o ((i : ℕ) × IsSomeAnd (slice_get l i) P)
     lost_of P None h = (i, stood l i a P near is h)
     lost_of P (Some d) h = tt
+
+-- a hand that took a job holds it
+module _ {J O : Type 0} (was v : View J O) (slots : ℕ) where
+  pub taken_one : (o : Option (ℕ × J)) →
+      MatchOption o ((gained : List (ℕ × ℕ)) × (v ≡ having_read was gained) × MissedAll slots gained)
+      (λ t. (gained : List (ℕ × ℕ)) × (slot : ℕ) × (v ≡ after_take (having_read was gained) t.0 slot t.1) × HasJob v t.0 slot t.1 × FoundJob slot t.0 gained) →
+      IfSome o (λ t. (slot : ℕ) × HasJob v t.0 slot t.1)
+  taken_one None h = tt
+  taken_one (Some t) (gained, slot, is, has, found) = (slot, has)

@@ -7,7 +7,9 @@ ghost use Rattle.job_board.specs.Ends.{lead_view, lead_slots};
 ghost use Rattle.job_board.specs.Views.{having_read, after_collect, HasPosted, Uncollected};
 ghost use Rattle.worker_pool.specs.AreOut.{AreOut, HasAllOut};
 
-use crate::mode::JoinThreads;
+use crate::mode::{Gate, JoinThreads};
+use crate::own::OwnHand;
+use crate::task::Runs;
 use job_board::{JobNumber, Lead, Ring, Task};
 use std::snapshot::Snapshot;
 
@@ -32,9 +34,11 @@ fn place_of<J>(tickets: &[Ticket<J>], number: JobNumber) -> Option<usize>
     None
 }
 
-// Waits for an outcome, where that can be waited for.
-fn collect_one<J: JoinThreads, T: Task>(
+// Gets an outcome. While there is none it does the jobs that no other hand has taken, and then waits, where an outcome can be waited for.
+fn collect_one<J: JoinThreads, G: Gate, T: Runs>(
     lead: &mut Lead<T>,
+    own: &mut OwnHand<T>,
+    gate: &G,
     mode: &J,
 ) -> Option<(JobNumber, T::Outcome)>
     ensures collected { MatchOption result
@@ -52,6 +56,9 @@ fn collect_one<J: JoinThreads, T: Task>(
         if let Some(collected) = lead.try_collect() {
             return Some(collected);
         }
+        if own.do_one(gate) {
+            continue;
+        }
         if !mode.listen(lead.bell(), heard) {
             return None;
         }
@@ -60,10 +67,12 @@ fn collect_one<J: JoinThreads, T: Task>(
     None
 }
 
-// Waits for the outcome of a job that has a ticket, and gives the place of the ticket. What has none is dropped: its job was given up.
-fn collect_one_of<J: JoinThreads, T: Task>(
+// Gets the outcome of a job that has a ticket, and gives the place of the ticket. What has none is dropped: its job was given up.
+fn collect_one_of<J: JoinThreads, G: Gate, T: Runs>(
     lead: &mut Lead<T>,
     tickets: &[Ticket<T::Job>],
+    own: &mut OwnHand<T>,
+    gate: &G,
     mode: &J,
 ) -> Option<(usize, T::Outcome)>
     requires { AreOut tickets.now (lead_view lead.old) }
@@ -78,7 +87,7 @@ fn collect_one_of<J: JoinThreads, T: Task>(
 {
     for round in 0..u64::MAX {
         lead.prove_law();
-        let (number, outcome) = collect_one(lead, mode)?;
+        let (number, outcome) = collect_one(lead, own, gate, mode)?;
         if let Some(place) = place_of(tickets, number) {
             return Some((place, outcome));
         }
@@ -87,7 +96,8 @@ fn collect_one_of<J: JoinThreads, T: Task>(
     unreachable!()
 }
 
-// Posts a job, for which there is a ticket then, behind the others. It comes back where an allocation fails, or the board has no room.
+// Posts a job, for which there is a ticket then, behind the others. No hand is called for it. It comes back where an allocation fails, or the board has
+// no room.
 pub(crate) fn post<T: Task>(
     lead: &mut Lead<T>,
     tickets: &mut Vec<Ticket<T::Job>>,
@@ -109,7 +119,7 @@ pub(crate) fn post<T: Task>(
     };
     let posted = Snapshot::of(&job);
     lead.prove_law();
-    match lead.post(job) {
+    match lead.post_quietly(job) {
         Ok(number) => {
             tickets.push_reserved(Ticket {
                 number,
@@ -121,12 +131,14 @@ pub(crate) fn post<T: Task>(
     }
 }
 
-// Waits for the outcome of a job that has a ticket, of whichever is done. None only where that can't be waited for: the first job is given up, which
-// is noted.
-pub(crate) fn collect<J: JoinThreads, T: Task>(
+// Gets the outcome of a job that has a ticket, of whichever is done. None only where that can't be waited for: the first job is given up, which is
+// noted.
+pub(crate) fn collect<J: JoinThreads, G: Gate, T: Runs>(
     lead: &mut Lead<T>,
     tickets: &mut Vec<Ticket<T::Job>>,
     gave_up: &mut bool,
+    own: &mut OwnHand<T>,
+    gate: &G,
     mode: &J,
 ) -> Option<T::Outcome>
     requires some { 0 < length tickets.old.items }
@@ -142,7 +154,7 @@ pub(crate) fn collect<J: JoinThreads, T: Task>(
     ensures slots { lead_slots lead.new ≡ lead_slots lead.old }
     ensures joins { IsTrue (J.joins mode.now) → IsSome result }
 {
-    match collect_one_of(lead, tickets.as_slice(), mode) {
+    match collect_one_of(lead, tickets.as_slice(), own, gate, mode) {
         Some((place, outcome)) => {
             tickets.remove(place);
             Some(outcome)

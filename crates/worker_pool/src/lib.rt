@@ -4,6 +4,7 @@
 mod desk;
 pub mod fault;
 pub mod mode;
+mod own;
 pub mod pool;
 pub mod single;
 mod standing;

@@ -50,8 +50,9 @@ impl<B: Body> Pool<B> {
         }
     }
 
-    /// A pool with no job out, for a call. Up to `workers` workers are started as jobs want them, and live until
-    /// `end` sends them away. With 0 none does.
+    /// A pool with no job out, for a call, of up to `workers` workers. One is the thread that hands jobs out: it does
+    /// jobs that no other has taken while it waits for one. The others are started as jobs want them, and live until
+    /// `end` sends them away. With 0 there is none.
     pub fn begin(alloc: Global, workers: usize) -> Result<Self, AllocError>
         ensures { IfOk result (λ p. p ≡ []) }
     {
@@ -133,7 +134,7 @@ impl<B: Body> Pool<B> {
     {
         match &mut self.form {
             Form::Threads(jobs) => jobs.bring_back(mode.signals(), mode),
-            Form::Stands(jobs) => jobs.bring_back(mode),
+            Form::Stands(jobs) => jobs.bring_back(mode.gate(), mode),
         }
     }
 

@@ -10,6 +10,7 @@ ghost use Rattle.worker_pool.specs.Ran.{Ran};
 use crate::desk::{Ticket, collect, post};
 use crate::fault::HandOutFault;
 use crate::mode::{Gate, JoinThreads, Signals};
+use crate::own::{OwnHand, run};
 use crate::start::{JobResult, Start};
 use crate::task::{Runs, StartTask};
 use body::Body;
@@ -45,11 +46,7 @@ fn work<N: Signals, G: Gate, T: Runs>(signals: N, gate: &G, mut hand: Hand<T>) {
         let Some((number, job)) = take(signals, &mut hand) else {
             break;
         };
-        let start = T::number(&job);
-        gate.enter(start);
-        let outcome = T::run(job);
-        gate.leave(start);
-        hand.done(number, outcome);
+        run(gate, &mut hand, number, job);
     }
 }
 
@@ -68,6 +65,8 @@ fn start_worker<'s, E: 's, N: Signals + 's, G: Gate, T: Runs + Send + 's>(
 pub struct Standing<B: Body> {
     lead: Lead<StartTask<B>>,
     tickets: Vec<Ticket<Start<B>>>,
+    // The hand of this thread, which is a worker too.
+    own: OwnHand<StartTask<B>>,
     // The hands of workers that don't stand yet.
     hands: Vec<Hand<StartTask<B>>>,
     workers: Vec<JoinHandle<()>>,
@@ -76,7 +75,7 @@ pub struct Standing<B: Body> {
 }
 
 impl<B: Body> Model for Standing<B> {
-    ghost use Rattle.std.specs.Prelude.{map, length, true};
+    ghost use Rattle.std.specs.Prelude.{◌+◌, map, length, true};
     ghost use Rattle.job_board.specs.Ends.{lead_view, lead_slots};
     ghost use Rattle.worker_pool.specs.Stand.{Stand};
     ghost use Rattle.worker_pool.specs.AreOut.{IsTied};
@@ -93,25 +92,30 @@ impl<B: Body> Model for Standing<B> {
             there = true;
           })
           s.tickets.items;
-      workers = length s.workers.items;
+      workers = length s.workers.items + 1;
       hands = length s.hands.items;
       slots = lead_slots s.lead;
     } };
 
     ghost invariant = { λ s. IsTied s.tickets.items (lead_view s.lead) s.gave_up (lead_slots s.lead)
-        (length s.hands.items) (length s.workers.items) };
+        (length s.hands.items) (length s.workers.items + 1) };
 }
 
 impl<B: Body> Standing<B> {
-    // A board for so many workers, of which none stands yet, and for as many jobs.
+    // A board for so many workers and for as many jobs. This thread is a worker, and no other stands yet.
     pub(crate) fn open(alloc: Global, count: usize) -> Result<Self, AllocError>
-        ensures { IfOk result (λ s. s
-            ≡ record { jobs = []; workers = 0; hands = count; slots = count }) }
+        requires { 0 < count }
+        ensures jobs { IfOk result (λ s. (s.jobs ≡ []) × (s.workers ≡ 1) × (s.slots ≡ count)) }
+        ensures hands { IfOk result (λ s. s.hands + 1 ≡ count) }
     {
-        let (lead, hands) = Board::new(alloc, count, count)?;
+        let (lead, mut hands) = Board::new(alloc, count, count)?;
+        let Some(own) = hands.pop() else {
+            unreachable!()
+        };
         Ok(Standing {
             lead,
             tickets: Vec::new(alloc),
+            own: OwnHand::new(own),
             hands,
             workers: Vec::new(alloc),
             gave_up: false,
@@ -143,7 +147,7 @@ impl<B: Body> Standing<B> {
         ensures only { OnErr result ((result ≡ Err (HandOutFault.Memory start))
             ⊎ (result ≡ Err (HandOutFault.NoWorker start))) }
     {
-        if self.tickets.len() < self.workers.len() {
+        if self.tickets.len() <= self.workers.len() {
             return Ok(start);
         }
         let Ok(()) = self.workers.reserve(1) else {
@@ -159,7 +163,8 @@ impl<B: Body> Standing<B> {
         Ok(start)
     }
 
-    // Hands a job to the workers that stand. It comes back where an allocation fails, or the board has no room.
+    // Hands a job to the workers that stand. If none of the others takes it, this thread does it where it waits. It comes back where an allocation fails,
+    // or the board has no room.
     fn hand_over(&mut self, start: Start<B>) -> Result<(), Start<B>>
         requires { length self.old.jobs < self.old.workers }
         ensures ok { OnOk result (self.new.jobs
@@ -176,6 +181,7 @@ impl<B: Body> Standing<B> {
         ensures same { (self.new.workers ≡ self.old.workers) × (self.new.hands ≡ self.old.hands)
             × (self.new.slots ≡ self.old.slots) }
     {
+        self.own.leave_to_others(&self.lead);
         post(&mut self.lead, &mut self.tickets, start)
     }
 
@@ -214,8 +220,13 @@ impl<B: Body> Standing<B> {
         }
     }
 
-    // Brings one job back, that of whichever worker is done with one, once it is. None only where the mode can't wait for one; that job is lost.
-    pub(crate) fn bring_back<J: JoinThreads>(&mut self, mode: &J) -> Option<JobResult<B>>
+    // Brings one job back, that of whichever worker is done with one, once it is. What no other worker has taken is done here, through the gate. None
+    // only where the mode can't wait for one; that job is lost.
+    pub(crate) fn bring_back<J: JoinThreads, G: Gate>(
+        &mut self,
+        gate: &G,
+        mode: &J,
+    ) -> Option<JobResult<B>>
         requires { 0 < length self.old.jobs }
         ensures ran { IfSome result (λ done. (i : ℕ)
             × IsSomeAnd (slice_get self.old.jobs i) (λ job. Ran B.meaning B.fits job.number
@@ -229,7 +240,14 @@ impl<B: Body> Standing<B> {
         ensures same { (self.new.workers ≡ self.old.workers) × (self.new.hands ≡ self.old.hands)
             × (self.new.slots ≡ self.old.slots) }
     {
-        collect(&mut self.lead, &mut self.tickets, &mut self.gave_up, mode)
+        collect(
+            &mut self.lead,
+            &mut self.tickets,
+            &mut self.gave_up,
+            &mut self.own,
+            gate,
+            mode,
+        )
     }
 
     // Sends the workers away, and waits until each has left. Tells how many jobs are still out: they are lost.

@@ -13,8 +13,8 @@ invariant_of-self g c =
       open_still = c.collect.ensures.open ∙ c.self.invariant.open_still;
       out = c.collect.ensures.out;
       all_out = c.collect.ensures.all;
-      served = still_served c.self.inside.tickets.items c.collect.new.tickets.items (length c.self.inside.workers.items) c.collect.result _ c.self.invariant.served some c.collect.ensures.some c.collect.ensures.none;
-      seated = subst (λ (n : ℕ). length c.self.inside.hands.items + length c.self.inside.workers.items ≤ n) (sym c.collect.ensures.slots) c.self.invariant.seated;
+      served = still_served c.self.inside.tickets.items c.collect.new.tickets.items (length c.self.inside.workers.items + 1) c.collect.result _ c.self.invariant.served some c.collect.ensures.some c.collect.ensures.none;
+      seated = subst (λ (n : ℕ). length c.self.inside.hands.items + (length c.self.inside.workers.items + 1) ≤ n) (sym c.collect.ensures.slots) c.self.invariant.seated;
     }
 
 pub returns-clause-ran : goal.returns-clause-ran

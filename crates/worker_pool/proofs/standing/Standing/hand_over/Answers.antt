@@ -11,12 +11,12 @@ pub invariant_of-self : goal.invariant_of-self
 invariant_of-self g c =
     let jobs = ap (λ (s : Stand g.row.B.Denot). s.jobs) c.self.view_is in
     let workers = ap (λ (s : Stand g.row.B.Denot). s.workers) c.self.view_is in
-    let free = subst (λ (n : ℕ). n < length c.self.inside.workers.items) (sym (as_many _ c.self.inside.tickets.items c.args.self.now.jobs jobs)) (subst (λ (n : ℕ). length c.args.self.now.jobs < n) (sym workers) c.requires) in record {
+    let free = subst (λ (n : ℕ). n < length c.self.inside.workers.items + 1) (sym (as_many _ c.self.inside.tickets.items c.args.self.now.jobs jobs)) (subst (λ (n : ℕ). length c.args.self.now.jobs < n) (sym workers) c.requires) in record {
       open_still = c.post.ensures.open;
       out = c.post.ensures.out;
       all_out = λ e. c.post.ensures.all (c.self.invariant.all_out e);
-      served = served_more c.self.inside.tickets.items c.post.new.tickets.items c.args.start (length c.self.inside.workers.items) c.post.result free c.post.ensures.ok c.post.ensures.err;
-      seated = subst (λ (n : ℕ). length c.self.inside.hands.items + length c.self.inside.workers.items ≤ n) (sym c.post.ensures.slots) c.self.invariant.seated;
+      served = served_more c.self.inside.tickets.items c.post.new.tickets.items c.args.start (length c.self.inside.workers.items + 1) c.post.result free c.post.ensures.ok c.post.ensures.err;
+      seated = subst (λ (n : ℕ). length c.self.inside.hands.items + (length c.self.inside.workers.items + 1) ≤ n) (sym c.post.ensures.slots) c.self.invariant.seated;
     }
 
 pub returns-clause-ok : goal.returns-clause-ok
@@ -27,3 +27,9 @@ post-requires-send-T-Job g c κs within = search (sendable, crosses, start_send)
 
 pub post-requires-send-T-Outcome : goal.post-requires-send-T-Outcome
 post-requires-send-T-Outcome g c κs within = search (sendable, crosses, done_send) depth 400 fits 50000
+
+pub leave_to_others-requires-send-T-Job : goal.leave_to_others-requires-send-T-Job
+leave_to_others-requires-send-T-Job g c κs within = search (sendable, crosses, start_send) depth 400 fits 50000
+
+pub leave_to_others-requires-send-T-Outcome : goal.leave_to_others-requires-send-T-Outcome
+leave_to_others-requires-send-T-Outcome g c κs within = search (sendable, crosses, done_send) depth 400 fits 50000

@@ -9,3 +9,9 @@ new-requires-send-T-Job g c κs within = search (sendable, crosses, start_send) 
 
 pub new-requires-send-T-Outcome : goal.new-requires-send-T-Outcome
 new-requires-send-T-Outcome g c κs within = search (sendable, crosses, done_send) depth 400 fits 50000
+
+pub new-requires-3-send-T-Job : goal.new-requires-3-send-T-Job
+new-requires-3-send-T-Job g c κs within = search (sendable, crosses, start_send) depth 400 fits 50000
+
+pub new-requires-3-send-T-Outcome : goal.new-requires-3-send-T-Outcome
+new-requires-3-send-T-Outcome g c κs within = search (sendable, crosses, done_send) depth 400 fits 50000

@@ -3,7 +3,7 @@ use lib.ListN.{get_elem?}
 use Rattle.job_board.proofs.Moves.{gives_job}
 use Rattle.job_board.proofs.Stacks.{top_free}
 use Rattle.job_board.proofs.Leads.{holds_job, has_posted, posted_stack, posted_counted, posted_tally}
-use Rattle.job_board.proofs.lead.Lead.post.Goals as goal
+use Rattle.job_board.proofs.lead.Lead.post_quietly.Goals as goal
 
 pub swap-requires : goal.swap-requires
 swap-requires g c = let it = c.args.self.now in let now = c.exchange.ensures.3 in let top = top_free it.slots it.seat.me.0 it.seat.me.1 it.free.items c.pop.new.self.items c.in-Some.slot it.stack c.in-Some.ensures.items in
