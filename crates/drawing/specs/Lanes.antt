@@ -9,7 +9,6 @@ use Rattle.drawing.specs.declared.shape.Label.{Label}
 use Rattle.drawing.specs.declared.shape.Label.TheVariants as label
 use Rattle.drawing.specs.declared.shape.Shape.{Shape}
 use Rattle.drawing.specs.declared.shape.Shape.TheVariants.{Rect, Line, Diamond, Text}
-use Rattle.drawing.specs.declared.shape.Style.{Style}
 use Rattle.drawing.specs.declared.shape.Style.TheVariants as style
 
 -- ---- places

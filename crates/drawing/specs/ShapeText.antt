@@ -113,6 +113,7 @@ label_text t (label.Sync k) = codes "sync " ++ decimal k
 label_text t (label.Datum datum) = datum_name datum
 label_text t (label.Run n) = codes "run " ++ decimal n
 label_text t (label.Runs first last all) = runs_text first last all
+label_text t label.Foreign = codes "run 1 opens with other archetypes than the file has"
 label_text t (label.AtOnce most whole hundredths) = at_once_text most whole hundredths
 
 -- the end of a shape with a title
@@ -138,6 +139,15 @@ text_opening x y s = opening (codes "text") s ++ attributes (codes "x") x (codes
 -- the same with its end
 abbrev pub written_text : Texts → Label → List ℕ
 written_text t l = label_text t l ++ (codes "</text>" ++ 10 ∷ [])
+
+-- a shape without words; nothing of one that has some
+abbrev pub bare_text : Shape → List ℕ
+bare_text (Rect x y width height s) = rect_text x y width height s
+bare_text (Titled x y width height l s) = []
+bare_text (Line x y to_x to_y s) = line_text x y to_x to_y s
+bare_text (Curve x y near far to_x to_y s) = curve_text x y near far to_x to_y s
+bare_text (Diamond x y l s) = []
+bare_text (Text x y l s) = []
 
 -- a shape
 abbrev pub shape_text : Texts → Shape → List ℕ

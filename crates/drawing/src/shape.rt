@@ -102,6 +102,8 @@ pub enum Label {
         last: u32,
         all: u64,
     },
+    /// That the first run opens with other archetypes than the file has.
+    Foreign,
     /// How many systems ran at once at most, and in the mean: whole ones and hundredths.
     AtOnce {
         most: u64,

@@ -1,7 +1,7 @@
 // The text of a drawing, as SVG.
 
 ghost use Rattle.std.specs.Prelude.{◌≡◌, ◌++◌, [], map, get_or, flat_map, OnOk, IfOk, string_bytes};
-ghost use Rattle.drawing.specs.ShapeText.{attribute, attributes, point_text, points_text, corners_text, opening, rect_opening, diamond_opening, label_text, runs_text, short_text, texts_of, titled_end, written_text, shape_text, rect_text, line_text, curve_text, text_opening, at_once_text, head_text, drawing_text};
+ghost use Rattle.drawing.specs.ShapeText.{attribute, attributes, bare_text, point_text, points_text, corners_text, opening, rect_opening, diamond_opening, label_text, runs_text, short_text, texts_of, titled_end, written_text, shape_text, rect_text, line_text, curve_text, text_opening, at_once_text, head_text, drawing_text};
 
 use crate::shape::{Label, Shape, Style, Words};
 use std::alloc::{AllocError, Global};
@@ -113,13 +113,6 @@ fn push_shape(text: &mut String, words: &Words<'_>, shape: Shape) -> Result<(), 
         ≡ string_bytes text.old ++ shape_text (texts_of words.now) shape) }
 {
     match shape {
-        Shape::Rect {
-            x,
-            y,
-            width,
-            height,
-            style,
-        } => push_rect(text, x, y, width, height, style),
         Shape::Titled {
             x,
             y,
@@ -131,6 +124,32 @@ fn push_shape(text: &mut String, words: &Words<'_>, shape: Shape) -> Result<(), 
             push_rect_opening(text, x, y, width, height, style)?;
             push_titled_end(text, words, "rect", title)
         }
+        Shape::Diamond { x, y, title, style } => {
+            push_diamond_opening(text, x, y, style)?;
+            push_titled_end(text, words, "polygon", title)
+        }
+        Shape::Text { x, y, label, style } => {
+            push_text_opening(text, x, y, style)?;
+            push_written(text, words, label)
+        }
+        Shape::Rect { .. } => push_bare(text, shape),
+        Shape::Line { .. } => push_bare(text, shape),
+        Shape::Curve { .. } => push_bare(text, shape),
+    }
+}
+
+// Adds the text of a shape without words, and nothing of one that has some.
+fn push_bare(text: &mut String, shape: Shape) -> Result<(), AllocError>
+    ensures { OnOk result (string_bytes text.new ≡ string_bytes text.old ++ bare_text shape) }
+{
+    match shape {
+        Shape::Rect {
+            x,
+            y,
+            width,
+            height,
+            style,
+        } => push_rect(text, x, y, width, height, style),
         Shape::Line {
             x,
             y,
@@ -147,14 +166,9 @@ fn push_shape(text: &mut String, words: &Words<'_>, shape: Shape) -> Result<(), 
             to_y,
             style,
         } => push_curve(text, x, y, near, far, to_x, to_y, style),
-        Shape::Diamond { x, y, title, style } => {
-            push_diamond_opening(text, x, y, style)?;
-            push_titled_end(text, words, "polygon", title)
-        }
-        Shape::Text { x, y, label, style } => {
-            push_text_opening(text, x, y, style)?;
-            push_written(text, words, label)
-        }
+        Shape::Titled { .. } => Ok(()),
+        Shape::Diamond { .. } => Ok(()),
+        Shape::Text { .. } => Ok(()),
     }
 }
 
@@ -313,6 +327,10 @@ fn push_label(text: &mut String, words: &Words<'_>, label: Label) -> Result<(), 
         Label::Datum(datum) => write!(text, "{datum}"),
         Label::Run(run) => write!(text, "run {run}"),
         Label::Runs { first, last, all } => write!(text, "runs {first} to {last} of {all}"),
+        Label::Foreign => {
+            text.push_str(FOREIGN)?;
+            Ok(())
+        }
         Label::AtOnce {
             most,
             whole,
@@ -320,6 +338,9 @@ fn push_label(text: &mut String, words: &Words<'_>, label: Label) -> Result<(), 
         } => push_at_once(text, most, whole, hundredths),
     }
 }
+
+// What is written above runs of a trace that was recorded of another file.
+const FOREIGN: &str = "run 1 opens with other archetypes than the file has";
 
 // Adds the text of a number.
 fn push_name(text: &mut String, names: &[&str], number: u32) -> Result<(), AllocError>

@@ -7,7 +7,7 @@ use Rattle.findings.specs.declared.loading.Loaded.{Loaded}
 use Rattle.program.specs.declared.fault.Fault.{Fault}
 use Rattle.program.specs.declared.fault.Fault.TheVariants.{Memory}
 use Rattle.ecsview.specs.Answer.{IsAnswer, IsAnsweredOn}
-use Rattle.ecsview.specs.Explained.{AsksWhy, IsToldOf}
+use Rattle.ecsview.specs.Explained.{IsToldTo}
 use Rattle.toml.specs.Data.{Members}
 use Rattle.toml.specs.Parse.{parse_document}
 use Rattle.ecsview.specs.Refusals.{IsRefusal, IsRefusalOn}
@@ -15,10 +15,10 @@ use Rattle.ecsview.specs.declared.args.Work.{Work}
 use Rattle.ecsview.specs.declared.viewing.Shown.{Shown}
 
 -- where a fault for which a file is not accepted is explained, that is the answer
-pub explained_is : (opener rules : List ℕ) (work : Work) (file trace other : Option (List ℕ)) (fault : Fault) (r : Result Shown Fault) → IsUnloaded file fault → OnOk r (AsksWhy work) → IfOk r (IsToldOf fault)
+pub explained_is : (opener rules : List ℕ) (work : Work) (file trace other : Option (List ℕ)) (fault : Fault) (r : Result Shown Fault) → IsUnloaded file fault → IfOk r (IsToldTo work fault)
     → IfOk r (IsAnsweredOn opener rules work file trace other)
-explained_is opener rules work file trace other fault (Ok shown) unloaded asked told = inr (asked, record { fault = fault; refused = unloaded; told = told })
-explained_is opener rules work file trace other fault (Err e) unloaded asked told = tt
+explained_is opener rules work file trace other fault (Ok shown) unloaded told = inr (record { fault = fault; refused = unloaded; told = told })
+explained_is opener rules work file trace other fault (Err e) unloaded told = tt
 
 -- where it is told, or that an allocation fails, the work is refused
 pub refused_is : (work : Work) (file trace other : Option (List ℕ)) (fault : Fault) (r : Result Shown Fault) → IsUnloaded file fault → IfErr r (λ told. (told ≡ fault) ⊎ (told ≡ Memory))

@@ -4,3 +4,4 @@ pub mod PairTexts
 pub mod RecordAnswers
 pub mod Lines
 pub mod Pictures
+pub mod Traces

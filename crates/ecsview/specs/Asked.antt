@@ -1,10 +1,11 @@
 -- What a command line asks `ecsview` for.
-use Rattle.std.specs.Prelude.{true, false, List, [], ◌∷◌, Option, Some, None, codes, option_map, if◌then◌else◌}
+use Rattle.std.specs.Prelude.{◌+◌, List, [], ◌∷◌, Option, Some, None, codes, option_map, if◌then◌else◌}
 use Rattle.std.specs.Option.{option_map_or}
 use Rattle.std.specs.Str.{bytes_eq}
 use Rattle.clap.specs.Words.{App, Row, Text, first_of}
 use Rattle.command_line.specs.Grammar.{command, number, option, positional, program}
 use Rattle.command_line.specs.Values.{number_between, value_of}
+use Rattle.ecsview.specs.Asking.{asking_in}
 use Rattle.ecsview.specs.Part.{part_asked}
 use Rattle.ecsview.specs.declared.args.Args.{Args}
 use Rattle.ecsview.specs.declared.args.Work.{Work}
@@ -15,10 +16,12 @@ abbrev pub ecsview_program : App
 ecsview_program = program (codes "ecsview") (
     command (codes "schedule") (positional (codes "file") ∷ [])
     ∷ command (codes "lanes") (positional (codes "file") ∷ positional (codes "trace") ∷ option (codes "runs") (codes "runs") ∷ [])
-    ∷ command (codes "races") (positional (codes "file") ∷ [])
+    ∷ command (codes "races") (positional (codes "file") ∷ number (codes "after") (codes "after") 0 4294967294 ∷ [])
     ∷ command (codes "diverge") (positional (codes "file") ∷ positional (codes "trace") ∷ positional (codes "other") ∷ [])
     ∷ command (codes "steps") (positional (codes "file") ∷ positional (codes "trace") ∷ number (codes "run") (codes "run") 1 4294967295 ∷ [])
-    ∷ command (codes "explain") (positional (codes "file") ∷ option (codes "deny") (codes "deny") ∷ [])
+    ∷ command (codes "explain") (positional (codes "file") ∷ option (codes "deny") (codes "deny") ∷ option (codes "format") (codes "format") ∷ option (codes "trace") (codes "trace") ∷ [])
+    ∷ command (codes "series") (positional (codes "file") ∷ positional (codes "name") ∷ number (codes "times") (codes "times") 0 1000000 ∷ number (codes "every") (codes "every") 1 1000000 ∷ option (codes "format") (codes "format") ∷ [])
+    ∷ command (codes "cost") (positional (codes "file") ∷ number (codes "times") (codes "times") 0 1000000 ∷ [])
     ∷ [])
 
 -- the work, and the paths of the program file and of one or two traces, each empty where none is named
@@ -52,21 +55,21 @@ steps_of_run text = option_map (λ run. Steps (Some run)) (number_between 1 4294
 abbrev pub steps_asked : Option Text → Option Work
 steps_asked run = option_map_or steps_of_run run (Some (Steps None))
 
--- an explanation, in which warnings are denied where that is asked for
-abbrev pub explain_denying : Text → Option Work
-explain_denying text = if bytes_eq text (codes "warnings") then Some (Explain true) else None
+-- the races of the run behind so many, of the first where no number is named
+abbrev pub races_behind : Text → Option Work
+races_behind text = option_map (λ runs. Races (runs + 1)) (number_between 0 4294967294 text)
 
-abbrev pub explain_asked : Option Text → Option Work
-explain_asked deny = option_map_or explain_denying deny (Some (Explain false))
+abbrev pub races_asked : Option Text → Option Work
+races_asked after = option_map_or races_behind after (Some (Races 1))
 
 -- the work of a command of this name
 abbrev pub work_asked : Text → List Row → Option Work
 work_asked name rows = if bytes_eq name (codes "schedule") then Some Schedule
     else (if bytes_eq name (codes "lanes") then option_map (λ part. Lanes part) (part_asked (first_of (codes "runs") rows))
-    else (if bytes_eq name (codes "races") then Some Races
+    else (if bytes_eq name (codes "races") then races_asked (first_of (codes "after") rows)
     else (if bytes_eq name (codes "diverge") then Some Diverge
     else (if bytes_eq name (codes "steps") then steps_asked (first_of (codes "run") rows)
-    else (if bytes_eq name (codes "explain") then explain_asked (first_of (codes "deny") rows) else None)))))
+    else (if bytes_eq name (codes "explain") then option_map (λ asking. Explain asking) (asking_in rows) else None)))))
 
 abbrev pub asked_by : Text → List Row → Option Asked
 asked_by name rows = option_map (asked_on rows) (work_asked name rows)

@@ -1,5 +1,5 @@
 -- The texts of drawings: of a schedule, and of the runs of a trace.
-use Rattle.std.specs.Prelude.{ℕ, ◌≡◌, ◌+◌, ◌-◌, ◌*◌, ◌==◌, cond, min, max, List, [], ◌∷◌, ◌++◌, drop, length, map, reverse, take, Option, IfSome}
+use Rattle.std.specs.Prelude.{ℕ, ◌≡◌, ◌≢◌, ◌↔◌, ◌+◌, ◌-◌, ◌*◌, ◌==◌, Bool, cond, min, max, List, [], ◌∷◌, ◌++◌, drop, length, map, reverse, slice_get, take, Option, Some, option_and_then, IfSome, IsTrue}
 use Rattle.std.specs.List.{AllByRecursion}
 use Rattle.ambiguity_report.specs.declared.report.Pair.{Pair}
 use Rattle.ambiguity_report.specs.Report.{IsReport}
@@ -9,9 +9,11 @@ use Rattle.drawing.specs.declared.shape.Label.TheVariants as label
 use Rattle.drawing.specs.declared.shape.Shape.{Shape}
 use Rattle.drawing.specs.declared.shape.Shape.TheVariants.{Text}
 use Rattle.drawing.specs.declared.shape.Style.TheVariants as style
+use Rattle.ecsview.specs.Found.{first_of}
 use Rattle.ecsview.specs.declared.part.Part.{Part}
 use Rattle.findings.specs.declared.loading.Loaded.{Loaded}
 use Rattle.model.specs.declared.steps.Step.{Step}
+use Rattle.model.specs.state.KindSets.{kind_sets_of}
 use Rattle.model.specs.steps.Lawful.{IsLawful}
 use Rattle.model.specs.steps.Schedule.{Schedule, Recorded, recording}
 use Rattle.schedule_drawing.specs.Drawn.{drawn_height, drawn_width, schedule_shapes}
@@ -87,16 +89,38 @@ heading_shapes part drawn count = cond (drawn == count) [] (Text 8 18 (label.Run
 abbrev pub top_of : ℕ → ℕ → ℕ
 top_of drawn count = cond (drawn == count) 10 30
 
--- the shapes of some of so many runs
-abbrev pub drawn_shapes : Part → ℕ → List Recorded → List Shape
-drawn_shapes part count runs = heading_shapes part (length runs) count ++ lanes_from (part.first - 1) (top_of (length runs) count) runs
+-- the kind sets with which the first of some runs opens, where it records any
+abbrev pub opening_sets : List Recorded → Option (List ℕ)
+opening_sets runs = option_and_then (λ (r : Recorded). option_and_then (λ lists. slice_get lists 0) r.sets) (slice_get runs 0)
+
+-- the first run opens with other kind sets than the world of the file has: the trace was recorded of another file, or this one was changed
+abbrev pub IsForeign : Loaded → List Recorded → Type 0
+IsForeign l runs = (numbers : List ℕ) × (opening_sets runs ≡ Some numbers) × (numbers ≢ kind_sets_of (first_of l.file).world.slots)
+
+-- what is written of that below a place, and where the runs begin then
+abbrev pub foreign_shapes : Bool → ℕ → List Shape
+foreign_shapes foreign above = cond foreign (Text 8 (above + 8) label.Foreign style.Axis ∷ []) []
+
+abbrev pub top_below : Bool → ℕ → ℕ
+top_below foreign above = cond foreign (above + 20) above
+
+-- where the first of some of so many runs begins
+abbrev pub runs_top : Bool → ℕ → ℕ → ℕ
+runs_top foreign drawn count = top_below foreign (top_of drawn count)
+
+-- the shapes of some of so many runs, of a trace of another file or not
+abbrev pub drawn_shapes : Bool → Part → ℕ → List Recorded → List Shape
+drawn_shapes foreign part count runs =
+    (heading_shapes part (length runs) count ++ foreign_shapes foreign (top_of (length runs) count)) ++ lanes_from (part.first - 1) (runs_top foreign (length runs) count) runs
 
 -- the text is that of the shapes of the runs of the part that the trace has, once and in order, by the names of the systems, and some texts of conditions; all runs
--- of the trace are lawful
+-- of the trace are lawful. It is said above them exactly where the trace is of another file
 pub record IsLanesText (opener rules : List ℕ) (l : Loaded) (trace : Option (List ℕ)) (part : Part) (text : List ℕ) : Type 0 where
   pub runs : List Recorded
   pub read : IfSome trace (λ bytes. bytes ≡ trace_text runs)
   pub lawful : AllByRecursion (IsLawfulRun l.file.built) runs
+  pub foreign : Bool
+  pub judged : IsTrue foreign ↔ IsForeign l runs
   pub conditions : List (List ℕ)
   pub same : text ≡ drawing_text opener rules (texts_by l [] conditions []) (lanes_width (longest_from 0 (part_of part runs)))
-      (height_from (top_of (length (part_of part runs)) (length runs)) (part_of part runs)) (drawn_shapes part (length runs) (part_of part runs))
+      (height_from (runs_top foreign (length (part_of part runs)) (length runs)) (part_of part runs)) (drawn_shapes foreign part (length runs) (part_of part runs))

@@ -1,11 +1,13 @@
 -- What is explained of a program file: why it is refused, or that it is accepted.
 use Rattle.std.specs.Prelude.{ℕ, ◌≡◌, ◌↔◌, ◌==◌, ◌&&◌, nat_lt, if◌then◌else◌, Bool, true, false, List, [], ◌∷◌, ◌++◌, codes, decimal, length, Option, string_bytes}
 use Rattle.findings.specs.Refusals.{IsUnloaded}
+use Rattle.model.specs.declared.steps.StepFault.{StepFault}
+use Rattle.model.specs.declared.steps.StepFault.TheVariants as step
 use Rattle.model.specs.steps.Ambiguity.{Settled}
 use Rattle.model.specs.steps.Schedule.{Schedule}
 use Rattle.program.specs.Fault.{fault_text}
 use Rattle.program.specs.declared.fault.Fault.{Fault}
-use Rattle.program.specs.declared.fault.Fault.TheVariants.{TooLong, Content, Build, Script}
+use Rattle.program.specs.declared.fault.Fault.TheVariants.{TooLong, Content, Build, Script, TraceTooLong, TraceLine, TraceOrder, TraceLists, BadStep, UnfinishedRun, WrongAnswer, WrongSets, ClockSpent, IdsSpent, BodyRefused}
 use Rattle.program_file.specs.declared.fault.FileFault.{FileFault}
 use Rattle.program_file.specs.declared.fault.FileFault.TheVariants as file
 use Rattle.schedule_builder.specs.declared.fault.BuildFault.{BuildFault}
@@ -20,8 +22,15 @@ use Rattle.lints.specs.declared.lint.Lint.{Lint}
 use Rattle.program_file.specs.Tables.{AreResourcesIn, AreEntitiesIn, AreSetsIn, AreSystemsIn, AreChainsIn}
 use Rattle.program_file.specs.declared.program_file.ProgramFile.{ProgramFile}
 use Rattle.toml.specs.Data.{Members}
+use Rattle.diagnostics.specs.Json.{IsSaid}
+use Rattle.diagnostics.specs.declared.finding.Level.TheVariants as level
+use Rattle.serde_json.specs.Data.{string}
+use Rattle.warnings.specs.Lines.{AreLines}
 use Rattle.ecsview.specs.declared.args.Work.{Work}
 use Rattle.ecsview.specs.declared.args.Work.TheVariants.{Explain}
+use Rattle.ecsview.specs.declared.asking.Asking.{Asking}
+use Rattle.ecsview.specs.declared.asking.Format.{Format}
+use Rattle.ecsview.specs.declared.asking.Format.TheVariants as format
 use Rattle.ecsview.specs.declared.viewing.Shown.{Shown}
 
 -- ---- the codes of faults
@@ -56,13 +65,39 @@ script_code script.PastEnd = codes "X4"
 script_code script.NoRegister = codes "X5"
 script_code script.NotGranted = codes "X6"
 
--- that of a fault of a program file; of another fault there is none
+abbrev pub step_code : StepFault → List ℕ
+step_code step.Unknown = codes "S1"
+step_code step.Repeated = codes "S2"
+step_code step.NotReady = codes "S3"
+step_code step.ConditionOpen = codes "S4"
+step_code step.ConditionFalse = codes "S5"
+step_code step.ConditionTrue = codes "S6"
+step_code step.Conflict = codes "S7"
+step_code step.NotRunning = codes "S8"
+step_code step.LevelOpen = codes "S9"
+
+-- that of a fault of a trace, or of its replay
+abbrev pub trace_code : Fault → List ℕ
+trace_code TraceTooLong = codes "L3"
+trace_code (TraceLine line) = codes "L1"
+trace_code (TraceOrder line) = codes "L2"
+trace_code (TraceLists line) = codes "L4"
+trace_code (UnfinishedRun run) = codes "unfinished"
+trace_code (WrongAnswer run step) = codes "answer"
+trace_code (WrongSets run step) = codes "sets"
+trace_code ClockSpent = codes "E2"
+trace_code IdsSpent = codes "E3"
+trace_code BodyRefused = codes "E6"
+trace_code _ = []
+
+-- that of a fault; of input, output, memory and threads there is none
 abbrev pub code_of : Fault → List ℕ
 code_of TooLong = codes "P4"
 code_of (Content fault) = file_code fault
 code_of (Build fault) = build_code fault
 code_of (Script cause system block instruction) = script_code cause
-code_of _ = []
+code_of (BadStep run step fault) = step_code fault
+code_of fault = trace_code fault
 
 -- it is a fault of a program file
 abbrev pub IsOfFile : Fault → Type 0
@@ -79,17 +114,33 @@ pub record IsExplanation (fault : Fault) (text : List ℕ) : Type 0 where
   pub body : List ℕ
   pub same : text ≡ codes "error[" ++ (code_of fault ++ (codes "]: " ++ (body ++ (codes " = ecsrun: " ++ (fault_text fault ++ 10 ∷ [])))))
 
+-- the text is a line of JSON, with the code of a fault, as an error, and its line
+pub record IsFaultLine (fault : Fault) (text : List ℕ) : Type 0 where
+  pub line : List ℕ
+  pub same : text ≡ line ++ 10 ∷ []
+  pub said : IsSaid (code_of fault) level.Error (string (fault_text fault)) line
+
+-- a fault is told in a format
+abbrev pub IsFaultIn : Format → Fault → List ℕ → Type 0
+IsFaultIn format.Text fault text = IsExplanation fault text
+IsFaultIn format.Json fault text = IsFaultLine fault text
+
 -- a fault of a file is explained, and the status is 1
-pub record IsToldOf (fault : Fault) (shown : Shown) : Type 0 where
+pub record IsToldOf (form : Format) (fault : Fault) (shown : Shown) : Type 0 where
   pub of_file : IsOfFile fault
-  pub text : IsExplanation fault (string_bytes shown.text)
+  pub text : IsFaultIn form fault (string_bytes shown.text)
   pub ends : shown.status ≡ 1
 
+-- so it is in the format that is asked for, where it is asked why a file is refused
+abbrev pub IsToldTo : Work → Fault → Shown → Type 0
+IsToldTo (Explain asking) fault shown = IsToldOf asking.format fault shown
+IsToldTo _ fault shown = ⊥
+
 -- the fault for which a file is not accepted is explained
-pub record IsExplained (bytes : Option (List ℕ)) (shown : Shown) : Type 0 where
+pub record IsExplained (work : Work) (bytes : Option (List ℕ)) (shown : Shown) : Type 0 where
   pub fault : Fault
   pub refused : IsUnloaded bytes fault
-  pub told : IsToldOf fault shown
+  pub told : IsToldTo work fault shown
 
 -- the line of a file that is accepted
 abbrev pub accepted_line : Bool → List ℕ
@@ -127,14 +178,14 @@ pub record IsAcceptedText (s : Schedule) (count : ℕ) (text : List ℕ) : Type 
   pub body : List ℕ
   pub same : text ≡ body ++ (warnings_line count ++ accepted_line settled)
 
+-- the same in a format: as JSON a line for each
+abbrev pub IsAcceptedIn : Format → Schedule → List Lint → List ℕ → Type 0
+IsAcceptedIn format.Text s found text = IsAcceptedText s (length found) text
+IsAcceptedIn format.Json s found text = AreLines found text
+
 -- of a file that is accepted what is likely a mistake is counted, and told, and whether the schedule is settled
-pub record IsAccepted (document : Members) (l : Loaded) (denies : Bool) (shown : Shown) : Type 0 where
+pub record IsAccepted (document : Members) (l : Loaded) (asking : Asking) (shown : Shown) : Type 0 where
   pub found : List Lint
   pub are : AreFound document l found
-  pub text : IsAcceptedText l.file.built (length found) (string_bytes shown.text)
-  pub ends : shown.status ≡ accepted_status denies (length found)
-
--- it is asked why a file is refused
-abbrev pub AsksWhy : Work → Type 0
-AsksWhy (Explain denies) = Unit {0}
-AsksWhy _ = ⊥
+  pub text : IsAcceptedIn asking.format l.file.built found (string_bytes shown.text)
+  pub ends : shown.status ≡ accepted_status asking.denies (length found)

@@ -1,7 +1,8 @@
 -- The texts of what is found on a file: witnesses of its races, where two records part, and the worlds of recorded runs.
-use Rattle.std.specs.Prelude.{ℕ, ◌≡◌, List, [], ◌∷◌, ◌++◌, codes, decimal, length, map, Option, Some, None, IfSome}
+use Rattle.std.specs.Prelude.{ℕ, ◌-◌, ◌≡◌, List, [], ◌∷◌, ◌++◌, codes, decimal, length, map, Option, Some, None, IfSome}
 use Rattle.ambiguity_report.specs.Report.{IsReport}
 use Rattle.ambiguity_report.specs.declared.report.Pair.{Pair}
+use Rattle.findings.specs.Behind.{IsBehind}
 use Rattle.findings.specs.Parting.{AreAllReplayed, IsDifferenceOf, IsParting}
 use Rattle.findings.specs.Stories.{IsStory, count_text}
 use Rattle.findings.specs.Texts.{IsPartingText, IsWitnessText, pair_text}
@@ -31,27 +32,31 @@ meanings_of l = meanings_of_scripts l.built l.bodies.items
 
 -- ---- races
 
--- what is said of a pair: its witness, or that none was found
-abbrev pub IsFindingText : List (List ℕ) → Pair → Option Witness → List ℕ → Type 0
-IsFindingText names pair None text = text ≡ codes "-- no witness in the first run" ++ 10 ∷ []
-IsFindingText names pair (Some witness) text = IsWitnessText names pair witness text
+-- what is said of a pair in the run of this number: its witness, or that none was found
+abbrev pub IsFindingText : List (List ℕ) → ℕ → Pair → Option Witness → List ℕ → Type 0
+IsFindingText names number pair None text = text ≡ codes "-- no witness in run " ++ (decimal number ++ 10 ∷ [])
+IsFindingText names number pair (Some witness) text = IsWitnessText names number pair witness text
 
--- the text behind these pairs, where it is this before them: each adds its line, and what is said of it. A witness that is told is one, from this state
-abbrev pub AreRaces : Schedule → List BodyMeaning → State → List (List ℕ) → List Pair → List ℕ → List ℕ → Type 0
-AreRaces s bodies start names [] text whole = text ≡ whole
-AreRaces s bodies start names (pair ∷ pairs) text whole =
-    (found : Option Witness) × (more : List ℕ) × IfSome found (IsWitness s bodies start pair) × IsFindingText names pair found more
-    × AreRaces s bodies start names pairs (text ++ pair_text names pair ++ more) whole
+-- the text behind these pairs, where it is this before them: each adds its line, and what is said of it. A witness that is told is one of the run of this number,
+-- from this state
+abbrev pub AreRaces : Schedule → List BodyMeaning → State → ℕ → List (List ℕ) → List Pair → List ℕ → List ℕ → Type 0
+AreRaces s bodies start number names [] text whole = text ≡ whole
+AreRaces s bodies start number names (pair ∷ pairs) text whole =
+    (found : Option Witness) × (more : List ℕ) × IfSome found (IsWitness s bodies start number pair) × IsFindingText names number pair found more
+    × AreRaces s bodies start number names pairs (text ++ pair_text names number pair ++ more) whole
 
 -- the first line: how many pairs there are
 abbrev pub races_line : ℕ → List ℕ
 races_line count = codes "races " ++ (decimal count ++ 10 ∷ [])
 
--- the text of the pairs of a schedule's report, each once and in order, from the state with which the first run of its file begins
-pub record IsRacesText (l : Loaded) (text : List ℕ) : Type 0 where
+-- the text of the pairs of a schedule's report, each once and in order, in the run of this number: from a state behind the runs before it, from that with which
+-- the first run of its file begins
+pub record IsRacesText (l : Loaded) (number : ℕ) (text : List ℕ) : Type 0 where
   pub pairs : List Pair
   pub report : IsReport l.built pairs
-  pub told : AreRaces l.built (meanings_of l) (first_of l) (map (λ name. name.now) l.names.items) pairs (races_line (length pairs)) text
+  pub start : State
+  pub behind : IsBehind l.built (meanings_of l) (first_of l) (number - 1) start
+  pub told : AreRaces l.built (meanings_of l) start number (map (λ name. name.now) l.names.items) pairs (races_line (length pairs)) text
 
 -- ---- two records
 

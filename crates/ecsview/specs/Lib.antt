@@ -1,12 +1,17 @@
 pub mod Answer
 pub mod Asked
+pub mod Asking
 pub mod Drawings
+pub mod Ended
 pub mod Explained
 pub mod Found
 pub mod Meanings
 pub mod Part
 pub mod Recorded
 pub mod Refusals
+pub mod SeriesAsked
+pub mod SeriesViewed
 pub mod Style
+pub mod Traced
 pub mod Unasked
 pub mod Viewed

@@ -1,9 +1,7 @@
 -- What a command leaves that looks at records of sessions.
-use Rattle.std.specs.Prelude.{ℕ, ◌≡◌, ◌⊎◌, List, Option, IfSome, string_bytes}
+use Rattle.std.specs.Prelude.{ℕ, ◌≡◌, ⊤, List, Option, IfSome, string_bytes}
 use Rattle.live_world.specs.Opened.{IsOpened}
 use Rattle.program.specs.Hosted.{AreScriptsIn}
-use Rattle.program.specs.Served.{HasGained, HasGainedFront, IsKept, Tells}
-use Rattle.program.specs.declared.fault.Fault.TheVariants.{Write}
 use Rattle.script.specs.declared.script_body.ScriptBody.{ScriptBody}
 use Rattle.session.specs.Live.{Live}
 use Rattle.session_records.specs.Diverging.{IsDivergence, meant}
@@ -11,6 +9,7 @@ use Rattle.session_records.specs.Stories.{IsRecordStory}
 use Rattle.session_records.specs.Reported.{IsReported}
 use Rattle.session_records.specs.declared.diverging.Retaker.{Retaker}
 use Rattle.session_records.specs.declared.told.Told.{Told}
+use Rattle.ecsview.specs.Ended.{IsEnded}
 use Rattle.ecsview.specs.declared.recorded.RecordWork.{RecordWork}
 use Rattle.ecsview.specs.declared.recorded.RecordWork.TheVariants.{Steps, Diverge}
 use Rattle.ecsview.specs.declared.viewing.Shown.{Shown}
@@ -54,30 +53,7 @@ abbrev pub IsRecordAnswer : RecordWork → Option (List ℕ) → Option (List �
 IsRecordAnswer (Steps asked) file record_bytes other shown = (shown.status ≡ 0) × IsStoryOf file record_bytes asked (string_bytes shown.text)
 IsRecordAnswer Diverge file record_bytes other shown = IsDivergenceOf file record_bytes other shown.status (string_bytes shown.text)
 
--- ---- streams
-
--- the text was printed whole, the status is its status, and nothing is told
-pub record IsRecordPrinted (work : RecordWork) (file record_bytes other : Option (List ℕ)) (status : ℕ) (out faults : Option (List ℕ) × Option (List ℕ)) : Type 0 where
-  pub shown : Shown
-  pub is : IsRecordAnswer work file record_bytes other shown
-  pub ends : status ≡ shown.status
-  pub written : HasGained out (string_bytes shown.text)
-  pub untold : IsKept faults
-
--- the output failed, which is told, and gained a beginning of the text
-pub record IsRecordCutOff (work : RecordWork) (file record_bytes other : Option (List ℕ)) (status : ℕ) (out faults : Option (List ℕ) × Option (List ℕ)) : Type 0 where
-  pub shown : Shown
-  pub is : IsRecordAnswer work file record_bytes other shown
-  pub written : HasGainedFront out (string_bytes shown.text)
-  pub told : Tells Write status faults
-
--- the work is refused, which is told, and nothing is printed
-pub record IsRecordRefused (status : ℕ) (out faults : Option (List ℕ) × Option (List ℕ)) : Type 0 where
-  pub why : Told
-  pub told : IsReported why status faults
-  pub kept : IsKept out
-
--- one of these
+-- the text that the work answers was printed, whole or up to where the output failed, or the work is refused
 abbrev pub IsRecordViewed : RecordWork → Option (List ℕ) → Option (List ℕ) → Option (List ℕ) → ℕ → (Option (List ℕ) × Option (List ℕ)) → (Option (List ℕ) × Option (List ℕ)) → Type 0
 IsRecordViewed work file record_bytes other status out faults =
-    IsRecordPrinted work file record_bytes other status out faults ⊎ IsRecordCutOff work file record_bytes other status out faults ⊎ IsRecordRefused status out faults
+    IsEnded (IsRecordAnswer work file record_bytes other) (λ (why : Told). ⊤) IsReported status out faults

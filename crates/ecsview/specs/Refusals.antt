@@ -1,9 +1,11 @@
 -- Why a command is refused: the fault that ends it.
-use Rattle.std.specs.Prelude.{ℕ, ◌+◌, ◌≡◌, ◌⊎◌, List, ◌∷◌, ◌++◌, length, Option, IfSome}
+use Rattle.std.specs.Prelude.{ℕ, ◌+◌, ◌-◌, ◌≡◌, ◌⊎◌, List, ◌∷◌, ◌++◌, length, Option, IfSome}
 use Rattle.std.specs.List.{AllByRecursion}
+use Rattle.findings.specs.Behind.{IsBehind}
 use Rattle.findings.specs.Loaded.{IsLoaded}
-use Rattle.findings.specs.Refusals.{IsUnloaded, IsUnparted, IsUntold, IsUnwitnessed}
+use Rattle.findings.specs.Refusals.{IsUnloaded, IsUnparted, IsUnreached, IsUntold, IsUnwitnessed}
 use Rattle.findings.specs.declared.loading.Loaded.{Loaded}
+use Rattle.model.specs.state.State.{State}
 use Rattle.model.specs.steps.Schedule.{Schedule, Recorded}
 use Rattle.program.specs.Refused.{IsTraceUnread, IsUngiven}
 use Rattle.program.specs.declared.loading.Loaded.{Loaded as ProgramLoaded}
@@ -14,6 +16,7 @@ use Rattle.trace_checker.specs.Verdicts.{IsVerdict}
 use Rattle.trace_checker.specs.declared.check.Verdict.TheVariants.{Bad}
 use Rattle.ecsview.specs.Drawings.{IsLawfulRun}
 use Rattle.ecsview.specs.Found.{first_of, meanings_of}
+use Rattle.ecsview.specs.Traced.{IsRefusedWith}
 use Rattle.ecsview.specs.declared.args.Work.{Work}
 use Rattle.ecsview.specs.declared.args.Work.TheVariants as work
 
@@ -52,15 +55,21 @@ pub record IsUnshown (l : ProgramLoaded) (trace : Option (List ℕ)) (fault : Fa
   pub read : IfSome trace (λ bytes. bytes ≡ trace_text runs)
   pub refused : IsUntold l.built (meanings_of l) (first_of l) runs fault
 
+-- no witnesses are found in the run of this number: a list of it is refused, from a state behind the runs before it, or one of these is; or an allocation fails
+abbrev pub IsUnfound : ProgramLoaded → ℕ → Fault → Type 0
+IsUnfound l number fault =
+    IsUnreached l.built (meanings_of l) (first_of l) (number - 1) fault
+    ⊎ ((start : State) × IsBehind l.built (meanings_of l) (first_of l) (number - 1) start × IsUnwitnessed l.built (meanings_of l) start number fault)
+
 -- some work on what a file declares, and on one trace or two, is refused: a trace is not read, there are no ids for so many entities, or what the work does
 -- with the runs is refused
 abbrev pub IsRefusal : Work → Loaded → Option (List ℕ) → Option (List ℕ) → Fault → Type 0
 IsRefusal work.Schedule l trace other fault = fault ≡ Memory
-IsRefusal (work.Lanes part) l trace other fault = IsTraceUnread trace fault ⊎ IsUndrawn l.file.built trace fault
-IsRefusal work.Races l trace other fault = IsUngiven (length l.file.entities.items) fault ⊎ IsUnwitnessed l.file.built (meanings_of l.file) (first_of l.file) fault
+IsRefusal (work.Lanes part) l trace other fault = IsTraceUnread trace fault ⊎ (IsUndrawn l.file.built trace fault ⊎ IsUngiven (length l.file.entities.items) fault)
+IsRefusal (work.Races number) l trace other fault = IsUngiven (length l.file.entities.items) fault ⊎ IsUnfound l.file number fault
 IsRefusal work.Diverge l trace other fault = IsTraceUnread trace fault ⊎ (IsTraceUnread other fault ⊎ (IsUngiven (length l.file.entities.items) fault ⊎ IsUncompared l.file trace other fault))
 IsRefusal (work.Steps run) l trace other fault = IsTraceUnread trace fault ⊎ (IsUngiven (length l.file.entities.items) fault ⊎ IsUnshown l.file trace fault)
-IsRefusal (work.Explain denies) l trace other fault = fault ≡ Memory
+IsRefusal (work.Explain asking) l trace other fault = IsRefusedWith l asking trace fault
 
 -- the same on the bytes of a program file: it is not accepted, or the work is refused on what it declares
 abbrev pub IsRefusalOn : Work → Option (List ℕ) → Option (List ℕ) → Option (List ℕ) → Fault → Type 0

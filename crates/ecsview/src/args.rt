@@ -3,8 +3,9 @@
 ghost use Rattle.std.specs.Prelude.{◌≡◌, IfErr, IfOk, Some, codes};
 ghost use Rattle.clap.specs.Words.{first_of, found_of, rows_of, subcommand_rows_of};
 ghost use Rattle.command_line.specs.Grammar.{IsIdle, IsNoWork, app_of_grammar, asked_for, work_in};
-ghost use Rattle.ecsview.specs.Asked.{asked_by, asked_of, asked_on, ecsview_program, explain_asked, explain_denying, steps_asked, steps_of_run, work_asked};
+ghost use Rattle.ecsview.specs.Asked.{asked_by, asked_of, asked_on, ecsview_program, races_asked, races_behind, steps_asked, steps_of_run, work_asked};
 
+use crate::asking::{Asking, asking_of};
 use crate::part::{Part, part_of};
 use clap::ArgMatches;
 use command_line::LineFault;
@@ -19,14 +20,14 @@ pub enum Work {
     Schedule,
     /// A drawing of these runs of a trace.
     Lanes(Part),
-    /// A witness for each pair that races.
-    Races,
+    /// A witness for each pair that races, in the run of this number.
+    Races(u32),
     /// Where two traces part.
     Diverge,
     /// The worlds after the sync points of a run of a trace, counted from 1, or of all.
     Steps(Option<u32>),
-    /// Why the file is refused, or what of it is likely a mistake, and whether that is denied.
-    Explain(bool),
+    /// Why the file is refused, or what of it is likely a mistake, as is asked.
+    Explain(Asking),
 }
 
 /// What a command line asks for: some work on the schedule that a file declares.
@@ -90,6 +91,62 @@ const DENY: Argument = Argument {
     range: None,
 };
 
+const AFTER: Argument = Argument {
+    id: "after",
+    long: "after",
+    value: "N",
+    help: "looks at the run behind N runs; at the first if left out",
+    range: Some((0, 4_294_967_294)),
+};
+
+const NAME: Argument = Argument {
+    id: "name",
+    long: "",
+    value: "NAME",
+    help: "1 to 16 times a resource, \"count(with Health)\" or \"sum(Health.v)\"",
+    range: None,
+};
+
+const TIMES: Argument = Argument {
+    id: "times",
+    long: "times",
+    value: "N",
+    help: "how many runs, 0 to 1000000; has to be given",
+    range: Some((0, 1_000_000)),
+};
+
+const EVERY: Argument = Argument {
+    id: "every",
+    long: "every",
+    value: "K",
+    help: "a row after each K runs, 1 if left out; up to 100000",
+    range: Some((1, 1_000_000)),
+};
+
+const FORMAT: Argument = Argument {
+    id: "format",
+    long: "format",
+    value: "text|json",
+    help: "texts, or for each finding a line of JSON",
+    range: None,
+};
+
+const OF_TRACE: Argument = Argument {
+    id: "trace",
+    long: "trace",
+    value: "TRACE",
+    help: "a file of recorded runs, which is explained as well",
+    range: None,
+};
+
+const SERIES_FORMAT: Argument = Argument {
+    id: "format",
+    long: "format",
+    value: "csv|svg",
+    help: "lines or a chart; csv if left out",
+    range: None,
+};
+
 const GRAMMAR: Grammar = Grammar {
     program: "ecsview",
     subcommands: &[
@@ -106,7 +163,7 @@ const GRAMMAR: Grammar = Grammar {
         Subcommand {
             name: "races",
             about: "prints two orders for each pair that races: ecsview races a.toml",
-            arguments: &[FILE],
+            arguments: &[FILE, AFTER],
         },
         Subcommand {
             name: "diverge",
@@ -121,16 +178,27 @@ const GRAMMAR: Grammar = Grammar {
         Subcommand {
             name: "explain",
             about: "why a file is refused, or what a code means: ecsview explain a.toml",
-            arguments: &[FILE, DENY],
+            arguments: &[FILE, DENY, FORMAT, OF_TRACE],
+        },
+        Subcommand {
+            name: "series",
+            about: "prints numbers of new runs: ecsview series a.toml --times 9 Total",
+            arguments: &[FILE, NAME, TIMES, EVERY, SERIES_FORMAT],
+        },
+        Subcommand {
+            name: "cost",
+            about: "measures how long systems run: ecsview cost a.toml --times 1000",
+            arguments: &[FILE, TIMES],
         },
     ],
 };
 
 impl<'a> Args<'a> {
     /// Reads the words of a command line, of which the first is the program's own name: `schedule FILE`,
-    /// `lanes FILE TRACE [--runs A..B]`, `races FILE`, `diverge FILE TRACE OTHER`, `steps FILE TRACE [--run N]` or
-    /// `explain FILE [--deny warnings]`. Runs are counted from 1, in decimal digits alone. Where a line has `--help` it is asked
-    /// for, whatever other fault the line has.
+    /// `lanes FILE TRACE [--runs A..B]`, `races FILE [--after N]`, `diverge FILE TRACE OTHER`,
+    /// `steps FILE TRACE [--run N]` or `explain FILE [--deny warnings] [--format text|json] [--trace TRACE]`. Runs are
+    /// counted from 1, N of `--after` from 0, all in decimal digits alone. Where a line has `--help` it is asked for,
+    /// whatever other fault the line has.
     pub fn read(alloc: Global, words: &'a [String]) -> Result<Args<'a>, LineFault>
         ensures ok { IfOk result (λ args. asked_for asked_by ecsview_program words.now
             ≡ Some (asked_of args)) }
@@ -192,10 +260,10 @@ fn work_of(name: &str, found: &ArgMatches<'_>) -> Option<Work>
     match name {
         "schedule" => Some(Work::Schedule),
         "lanes" => Some(Work::Lanes(part_of(found)?)),
-        "races" => Some(Work::Races),
+        "races" => races_of(found),
         "diverge" => Some(Work::Diverge),
         "steps" => steps_of(found),
-        "explain" => explain_of(found),
+        "explain" => Some(Work::Explain(asking_of(found)?)),
         _ => None,
     }
 }
@@ -203,29 +271,28 @@ fn work_of(name: &str, found: &ArgMatches<'_>) -> Option<Work>
 // What is told where an option of a command of this name has a value that it can't have.
 fn misused(name: &str) -> &'static str {
     match name {
-        "explain" => "error: what is denied is `warnings`\n",
+        "explain" => "error: what is denied is `warnings`, a format is `text` or `json`\n",
+        "races" => "error: `--after` takes a number of runs, in digits alone\n",
         _ => "error: runs are counted from 1, in digits alone\n",
     }
 }
 
-// An explanation, with what an option denies.
-fn explain_of(found: &ArgMatches<'_>) -> Option<Work>
-    ensures { result ≡ explain_asked (first_of (codes "deny") (rows_of (found_of found.now))) }
+// The races of the run behind as many as an option names, or of the first.
+fn races_of(found: &ArgMatches<'_>) -> Option<Work>
+    ensures { result ≡ races_asked (first_of (codes "after") (rows_of (found_of found.now))) }
 {
-    match found.get_str("deny") {
-        Some(text) => explain_denying(text),
-        None => Some(Work::Explain(false)),
+    match found.get_str("after") {
+        Some(text) => races_behind(text),
+        None => Some(Work::Races(1)),
     }
 }
 
-// The same with what a text denies.
-fn explain_denying(text: &str) -> Option<Work>
-    ensures { result ≡ explain_denying text.now }
+// The races of the run behind so many.
+fn races_behind(text: &str) -> Option<Work>
+    ensures { result ≡ races_behind text.now }
 {
-    match text {
-        "warnings" => Some(Work::Explain(true)),
-        _ => None,
-    }
+    let runs = number_between(text, 0, u32::MAX - 1)?;
+    Some(Work::Races(runs + 1))
 }
 
 // The steps of the run that an option names, or of all.

@@ -1,10 +1,10 @@
 // The drawings of a schedule, and of the runs of a trace.
 
-ghost use Rattle.std.specs.Prelude.{◌≡◌, ◌++◌, ◌⊎◌, IfErr, IfOk, OnOk, length, string_bytes};
+ghost use Rattle.std.specs.Prelude.{◌≡◌, ◌<◌, ◌++◌, ◌⊎◌, ◌↔◌, IfErr, IfOk, IsTrue, OnOk, length, option_map, string_bytes};
 ghost use Rattle.std.specs.List.{AllByRecursion};
-ghost use Rattle.ecsview.specs.Drawings.{IsLanesText, IsLawfulRun, IsScheduleText, drawn_shapes, heading_shapes, height_from, lanes_from, lanes_width, longest_from, part_of as part_in, top_of};
+ghost use Rattle.ecsview.specs.Drawings.{IsForeign, IsLanesText, IsLawfulRun, IsScheduleText, drawn_shapes, foreign_shapes, heading_shapes, height_from, lanes_from, lanes_width, longest_from, opening_sets as opening_sets_of, part_of as part_in, runs_top, top_below, top_of};
 ghost use Rattle.ecsview.specs.Refusals.{IsBadAmong, IsBadRun, IsUndrawn};
-ghost use Rattle.program.specs.Refused.{IsTraceUnread};
+ghost use Rattle.program.specs.Refused.{IsTraceUnread, IsUngiven};
 
 use crate::part::Part;
 use ambiguity_report::report::report;
@@ -13,6 +13,8 @@ use drawing::svg::{OPENER, RULES, text_of_drawing};
 use drawing::{Label, Shape, Style, Words};
 use executor_core::Trace;
 use findings::Loaded;
+use findings::loading::opening;
+use model::KindSets;
 use program::Fault;
 use program::checking::traces_of;
 use schedule_builder::Built;
@@ -62,7 +64,8 @@ fn strs_of<'a>(alloc: Global, texts: &'a [String]) -> Result<Vec<&'a str>, Alloc
 const MARGIN: u64 = 100;
 
 /// The drawing of a part of the runs of a trace, as SVG. A run of which a step may not come is refused, whichever are
-/// drawn. One that isn't complete has its recorded steps drawn.
+/// drawn. One that isn't complete has its recorded steps drawn. A line above them says where the first run opens with
+/// other archetypes than the world of the file has.
 pub fn lanes_text<T: Read>(
     alloc: Global,
     loaded: &Loaded<'_>,
@@ -72,10 +75,13 @@ pub fn lanes_text<T: Read>(
     ensures text { IfOk result (λ text. IsLanesText OPENER.now RULES.now loaded.now
         (T.remaining trace.old) part (string_bytes text)) }
     ensures refused { IfErr result (λ fault. IsTraceUnread (T.remaining trace.old) fault
-        ⊎ IsUndrawn loaded.now.file.built (T.remaining trace.old) fault) }
+        ⊎ (IsUndrawn loaded.now.file.built (T.remaining trace.old) fault
+        ⊎ IsUngiven (length loaded.now.file.entities.items) fault)) }
 {
     let traces = traces_of(alloc, trace)?;
-    check_steps(alloc, &loaded.file.built, traces.as_slice())?;
+    let runs = traces.as_slice();
+    check_steps(alloc, &loaded.file.built, runs)?;
+    let foreign = is_foreign(alloc, loaded, runs)?;
     let conditions = conditions_of(alloc, &loaded.file.built)?;
     let conditions = strs_of(alloc, conditions.as_slice())?;
     let words = Words {
@@ -84,10 +90,37 @@ pub fn lanes_text<T: Read>(
         conditions: conditions.as_slice(),
         touched: &[],
     };
-    let drawn = part_of(traces.as_slice(), part);
-    let lanes = drawn_of(alloc, drawn, part, traces.len())?;
+    let drawn = part_of(runs, part);
+    let lanes = drawn_of(alloc, drawn, part, runs.len(), foreign)?;
     let shapes = lanes.shapes.as_slice();
     Ok(text_of_drawing(alloc, &words, lanes.width, lanes.height, shapes)?)
+}
+
+// Whether the first run opens with other archetypes than the world of the file has, where it records any.
+fn is_foreign(alloc: Global, loaded: &Loaded<'_>, traces: &[Trace]) -> Result<bool, Fault>
+    ensures judged { IfOk result (λ foreign. IsTrue foreign ↔ IsForeign loaded.now traces.now) }
+    ensures refused { IfErr result (IsUngiven (length loaded.now.file.entities.items)) }
+{
+    let Some(recorded) = opening_sets(traces) else {
+        return Ok(false);
+    };
+    let file = &loaded.file;
+    let first = opening(
+        alloc,
+        &file.built,
+        file.entities.as_slice(),
+        &file.resources,
+    )?;
+    let there = first.world().kind_sets(alloc)?;
+    Ok(!recorded.is_same(&there))
+}
+
+// The archetypes with which the first of some runs opens, where it records any.
+fn opening_sets(traces: &[Trace]) -> Option<&KindSets>
+    ensures { option_map (λ sets. sets.now) result ≡ opening_sets_of traces.now }
+{
+    let trace = traces.first()?;
+    trace.sets()?.first()
 }
 
 // The runs of a part.
@@ -99,15 +132,23 @@ fn part_of(traces: &[Trace], part: Part) -> &[Trace]
     &traces[from..to]
 }
 
-// The drawing of some of so many runs.
-fn drawn_of(alloc: Global, drawn: &[Trace], part: Part, count: usize) -> Result<Drawn, AllocError>
+// The drawing of some of so many runs, of a trace of another file or not.
+fn drawn_of(
+    alloc: Global,
+    drawn: &[Trace],
+    part: Part,
+    count: usize,
+    foreign: bool,
+) -> Result<Drawn, AllocError>
     ensures width { IfOk result (λ lanes. lanes.width ≡ lanes_width (longest_from 0 drawn.now)) }
     ensures height { IfOk result (λ lanes. lanes.height
-        ≡ height_from (top_of (length drawn.now) count) drawn.now) }
-    ensures shapes { IfOk result (λ lanes. lanes.shapes.items ≡ drawn_shapes part count drawn.now) }
+        ≡ height_from (runs_top foreign (length drawn.now) count) drawn.now) }
+    ensures shapes { IfOk result (λ lanes. lanes.shapes.items
+        ≡ drawn_shapes foreign part count drawn.now) }
 {
     let mut shapes = Vec::new(alloc);
-    let top = add_heading(&mut shapes, part, drawn.len(), count)?;
+    let above = add_heading(&mut shapes, part, drawn.len(), count)?;
+    let top = add_foreign(&mut shapes, foreign, above)?;
     let height = add_runs(alloc, &mut shapes, drawn, part.first.saturating_sub(1), top)?;
     let width = width_of(drawn);
     Ok(Drawn {
@@ -142,6 +183,25 @@ fn add_heading(
         style: Style::Axis,
     })?;
     Ok(30)
+}
+
+// Adds what is written, below a place, above the runs of a trace of another file. Gives where they begin.
+fn add_foreign(shapes: &mut Vec<Shape>, foreign: bool, above: u64) -> Result<u64, AllocError>
+    requires { above < 100 }
+    ensures shapes { OnOk result (shapes.new.items
+        ≡ shapes.old.items ++ foreign_shapes foreign above) }
+    ensures top { IfOk result (λ top. top ≡ top_below foreign above) }
+{
+    if !foreign {
+        return Ok(above);
+    }
+    shapes.push(Shape::Text {
+        x: 8,
+        y: above + 8,
+        label: Label::Foreign,
+        style: Style::Axis,
+    })?;
+    Ok(above + 20)
 }
 
 // Refuses the first run of which a step may not come.

@@ -1,13 +1,18 @@
 // Why a program file is refused, or that it is accepted.
 
-ghost use Rattle.std.specs.Prelude.{◌≡◌, ◌++◌, ◌⊎◌, ◌∷◌, [], codes, IfErr, IfOk, OnOk, string_bytes, true};
-ghost use Rattle.ecsview.specs.Explained.{AreFound, AsksWhy, IsAccepted, IsAcceptedText, IsOfFile, IsToldOf, accepted_line, accepted_status, build_code, code_of, file_code, script_code, warnings_line};
-ghost use Rattle.toml.specs.View.{table_view};
+ghost use Rattle.std.specs.Prelude.{◌≡◌, ◌++◌, ◌⊎◌, ◌∷◌, [], codes, IfErr, IfOk, string_bytes, true};
 ghost use Rattle.program.specs.Fault.{fault_text};
+ghost use Rattle.ecsview.specs.Explained.{AreFound, IsAccepted, IsAcceptedIn, IsAcceptedText, IsFaultIn, IsFaultLine, IsOfFile, IsToldTo, accepted_line, accepted_status, build_code, code_of, file_code, script_code, step_code, trace_code, warnings_line};
+ghost use Rattle.toml.specs.View.{table_view};
 
 use crate::args::{Args, Work};
+use crate::asking::{Asking, Format};
 use crate::viewing::Shown;
 use ambiguity_report::report::{is_settled, report};
+use diagnostics::json::json_of_finding;
+use diagnostics::text::text_with_gutter;
+use diagnostics::{Finding, Heading, Level};
+use executor_core::StepFault;
 use explaining::{Found, explain, telling};
 use findings::Loaded;
 use lints::Lint;
@@ -18,18 +23,28 @@ use schedule_builder::{BuildFault, Built};
 use script::{Cause, ScriptFault};
 use std::alloc::{AllocError, Global};
 use toml::Table;
-use warnings::telling::text_of_lints;
+use warnings::telling::{json_of_lints, text_of_lints};
+
+/// A program file: its bytes, its path, and the document that it is.
+#[derive(Clone, Copy)]
+pub struct Text<'a> {
+    /// The bytes.
+    pub bytes: &'a [u8],
+    /// The path.
+    pub path: &'a str,
+    /// The document.
+    pub document: &'a Table,
+}
 
 /// What is answered to some work on a file with these bytes that is refused with a fault: where the file is to be explained, why it is.
 pub fn explained(alloc: Global, args: &Args<'_>, bytes: &[u8], fault: Fault) -> Result<Shown, Fault>
-    ensures asked { OnOk result (AsksWhy args.now.work) }
-    ensures told { IfOk result (IsToldOf fault) }
+    ensures told { IfOk result (IsToldTo args.now.work fault) }
     ensures kept { IfErr result (λ told. (told ≡ fault) ⊎ (told ≡ Fault.Memory)) }
 {
     match args.work {
-        Work::Explain(_) if is_of_file(&fault) => {
-            let body = body_of(alloc, bytes, args.file, &fault)?;
-            let text = text_of_fault(alloc, &fault, body.as_str())?;
+        Work::Explain(asking) if is_of_file(&fault) => {
+            let finding = finding_of(alloc, bytes, args.file, &fault)?;
+            let text = text_of_fault(alloc, asking.format, &fault, finding)?;
             Ok(Shown { text, status: 1 })
         }
         _ => Err(fault),
@@ -46,14 +61,46 @@ fn is_of_file(fault: &Fault) -> bool
     )
 }
 
+/// What is told of a fault in a format.
+pub fn text_of_fault(
+    alloc: Global,
+    format: Format,
+    fault: &Fault,
+    finding: Finding<'_>,
+) -> Result<String, AllocError>
+    ensures { IfOk result (λ text. IsFaultIn format fault.now (string_bytes text)) }
+{
+    match format {
+        Format::Text => {
+            let body = text_with_gutter(alloc, finding)?;
+            explanation(alloc, fault, body.as_str())
+        }
+        Format::Json => line_of_fault(alloc, fault, finding),
+    }
+}
+
 // The text of a fault: its code, what is told of it, and its line.
-fn text_of_fault(alloc: Global, fault: &Fault, body: &str) -> Result<String, AllocError>
+fn explanation(alloc: Global, fault: &Fault, body: &str) -> Result<String, AllocError>
     ensures { IfOk result (λ text. string_bytes text
         ≡ codes "error[" ++ (code_of fault.now ++ (codes "]: " ++ (body.now
         ++ (codes " = ecsrun: " ++ (fault_text fault.now ++ 10 ∷ [])))))) }
 {
     let code = code_of(fault);
     format!(in alloc; "error[{code}]: {body} = ecsrun: {fault}\n")
+}
+
+// The line of JSON of a fault.
+fn line_of_fault(alloc: Global, fault: &Fault, finding: Finding<'_>) -> Result<String, AllocError>
+    ensures { IfOk result (λ text. IsFaultLine fault.now (string_bytes text)) }
+{
+    let heading = Heading {
+        code: code_of(fault),
+        level: Level::Error,
+    };
+    let told = format!(in alloc; "{fault}")?;
+    let mut line = json_of_finding(alloc, heading, &finding, Some(told.as_str()))?;
+    line.push_str("\n")?;
+    Ok(line)
 }
 
 // The code of a fault.
@@ -65,6 +112,43 @@ fn code_of(fault: &Fault) -> &'static str
         Fault::Content(fault) => file_code(fault),
         Fault::Build(fault) => build_code(fault),
         Fault::Script { cause, .. } => script_code(*cause),
+        Fault::BadStep { fault, .. } => step_code(*fault),
+        other => trace_code(other),
+    }
+}
+
+// The code of a fault of a step.
+fn step_code(fault: StepFault) -> &'static str
+    ensures { result.now ≡ step_code fault }
+{
+    match fault {
+        StepFault::Unknown => "S1",
+        StepFault::Repeated => "S2",
+        StepFault::NotReady => "S3",
+        StepFault::ConditionOpen => "S4",
+        StepFault::ConditionFalse => "S5",
+        StepFault::ConditionTrue => "S6",
+        StepFault::Conflict => "S7",
+        StepFault::NotRunning => "S8",
+        StepFault::LevelOpen => "S9",
+    }
+}
+
+// The code of a fault of a trace, or of its replay.
+fn trace_code(fault: &Fault) -> &'static str
+    ensures { result.now ≡ trace_code fault.now }
+{
+    match fault {
+        Fault::TraceTooLong => "L3",
+        Fault::TraceLine(_) => "L1",
+        Fault::TraceOrder(_) => "L2",
+        Fault::TraceLists(_) => "L4",
+        Fault::UnfinishedRun { .. } => "unfinished",
+        Fault::WrongAnswer { .. } => "answer",
+        Fault::WrongSets { .. } => "sets",
+        Fault::ClockSpent => "E2",
+        Fault::IdsSpent => "E3",
+        Fault::BodyRefused => "E6",
         _ => "",
     }
 }
@@ -116,17 +200,22 @@ fn script_code(cause: Cause) -> &'static str
     }
 }
 
-// What is told of a fault of a file with these bytes at a path, without its code and its line.
-fn body_of(alloc: Global, bytes: &[u8], path: &str, fault: &Fault) -> Result<String, AllocError> {
+// What is told of a fault of a file with these bytes at a path.
+fn finding_of<'b>(
+    alloc: Global,
+    bytes: &'b [u8],
+    path: &'b str,
+    fault: &Fault,
+) -> Result<Finding<'b>, AllocError> {
     match document_of(alloc, bytes) {
         Ok(document) => {
             let found = found_in(alloc, &document, fault)?;
-            telling::text_of_document(alloc, bytes, &document, path, found)
+            telling::finding_of_document(alloc, bytes, &document, path, found)
         }
         Err(FileFault::Memory) => Err(AllocError),
         Err(_) => {
             let found = explain::of_bytes(alloc, bytes)?;
-            telling::text_of_bytes(alloc, bytes, path, found)
+            telling::finding_of_bytes(alloc, bytes, path, found)
         }
     }
 }
@@ -157,27 +246,47 @@ fn found_in<'a>(
     }
 }
 
-/// What is answered where a file with these bytes at a path that is to be explained is accepted, which is this document and declares this: what of it
-/// is likely a mistake, how much of that there is, and whether its schedule is settled. Where warnings are denied and there are some, the status
-/// is 1.
+/// What is answered where a file that is to be explained is accepted, which declares this: what of it is likely a mistake, how much of that there
+/// is, and whether its schedule is settled. Where warnings are denied and there are some, the status is 1.
 pub fn accepted(
     alloc: Global,
-    args: &Args<'_>,
-    bytes: &[u8],
-    document: &Table,
+    source: Text<'_>,
     loaded: &Loaded<'_>,
-    denies: bool,
+    asking: Asking,
 ) -> Result<Shown, AllocError>
-    ensures { IfOk result (IsAccepted (table_view document.now) loaded.now denies) }
+    ensures { IfOk result (IsAccepted (table_view source.entry.document.now) loaded.now asking) }
 {
-    let found = found_of(alloc, document, loaded)?;
-    let count = found.len();
-    let body = text_of_lints(alloc, bytes, document, args.file, found.as_slice())?;
-    let text = accepted_text(alloc, &loaded.file.built, body.as_str(), count)?;
+    let found = found_of(alloc, source.document, loaded)?;
+    let built = &loaded.file.built;
+    let text = text_of_found(alloc, source, asking.format, built, found.as_slice())?;
     Ok(Shown {
         text,
-        status: accepted_status(denies, count),
+        status: accepted_status(asking.denies, found.len()),
     })
+}
+
+// What is told of what is likely a mistake, in a format.
+fn text_of_found(
+    alloc: Global,
+    source: Text<'_>,
+    format: Format,
+    built: &Built,
+    found: &[Lint],
+) -> Result<String, AllocError>
+    ensures { IfOk result (λ text. IsAcceptedIn format built.now found.now (string_bytes text)) }
+{
+    let Text {
+        bytes,
+        path,
+        document,
+    } = source;
+    match format {
+        Format::Text => {
+            let body = text_of_lints(alloc, bytes, document, path, found)?;
+            accepted_text(alloc, built, body.as_str(), found.len())
+        }
+        Format::Json => json_of_lints(alloc, bytes, document, path, found),
+    }
 }
 
 // What is likely a mistake.

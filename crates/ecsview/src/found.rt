@@ -2,7 +2,7 @@
 
 ghost use Rattle.std.specs.Prelude.{◌≡◌, ◌<◌, ◌^◌, ◌++◌, ◌⊎◌, ℕ, List, length, map, IfErr, IfOk, OnOk, string_bytes};
 ghost use Rattle.ecsview.specs.Found.{AreRaces, IsDivergeText, IsFindingText, IsRacesText, IsStepsText, first_of, meanings_of, parting_status, races_line};
-ghost use Rattle.ecsview.specs.Refusals.{IsUncompared, IsUnshown};
+ghost use Rattle.ecsview.specs.Refusals.{IsUncompared, IsUnfound, IsUnshown};
 ghost use Rattle.engine.specs.Meanings.{HasMemories};
 ghost use Rattle.findings.specs.Parting.{AreAllReplayed, IsParting};
 ghost use Rattle.findings.specs.Refusals.{IsUnparted, IsUnwitnessed};
@@ -15,6 +15,7 @@ use ambiguity_report::Pair;
 use ambiguity_report::report::report;
 use body::State;
 use executor_core::Trace;
+use findings::behind::state_behind;
 use findings::diverging::{Parting, first_difference, parting_of};
 use findings::loading::opening;
 use findings::stories::story_of;
@@ -28,12 +29,11 @@ use script::ScriptBody;
 use std::alloc::{AllocError, Global};
 use std::io::Read;
 
-/// A witness for each pair that races.
-pub fn races_text(alloc: Global, loaded: Loaded<'_>) -> Result<String, Fault>
-    ensures text { IfOk result (λ text. IsRacesText loaded.entry (string_bytes text)) }
+/// A witness for each pair that races, in the run of this number, from a state that the runs before it leave.
+pub fn races_text(alloc: Global, loaded: Loaded<'_>, number: u32) -> Result<String, Fault>
+    ensures text { IfOk result (λ text. IsRacesText loaded.entry number (string_bytes text)) }
     ensures refused { IfErr result (λ fault. IsUngiven (length loaded.entry.entities.items) fault
-        ⊎ IsUnwitnessed loaded.entry.built (meanings_of loaded.entry) (first_of loaded.entry)
-        fault) }
+        ⊎ IsUnfound loaded.entry number fault) }
 {
     let Loaded {
         built,
@@ -46,8 +46,17 @@ pub fn races_text(alloc: Global, loaded: Loaded<'_>) -> Result<String, Fault>
     let first = begun(alloc, &built, entities.as_slice(), &resources)?;
     let names = names.as_slice();
     let bodies = bodies.as_mut_slice();
-    let text = witnesses_of(alloc, &built, names, bodies, &first, pairs.as_slice())?;
+    let state = state_behind(alloc, &built, bodies, first, number.saturating_sub(1))?;
+    let start = Beginning { number, state };
+    let text = witnesses_of(alloc, &built, names, bodies, &start, pairs.as_slice())?;
     Ok(text)
+}
+
+// With what a run begins: its number, and the state.
+#[derive(Drop)]
+struct Beginning {
+    number: u32,
+    state: State,
 }
 
 // The same of these pairs.
@@ -56,23 +65,24 @@ fn witnesses_of(
     built: &Built,
     names: &[&str],
     bodies: &mut [ScriptBody],
-    first: &State,
+    start: &Beginning,
     pairs: &[Pair],
 ) -> Result<String, Fault>
-    requires { HasMemories built.now first.now }
+    requires { HasMemories built.now start.now.state }
     ensures refused { IfErr result (IsUnwitnessed built.now
-        (meanings_of_scripts built.now bodies.old) first.now) }
+        (meanings_of_scripts built.now bodies.old) start.now.state start.now.number) }
     ensures races { IfOk result (λ text. AreRaces built.now
-        (meanings_of_scripts built.now bodies.old) first.now (map (λ name. name.now) names.now)
-        pairs.now (races_line (length pairs.now)) (string_bytes text)) }
+        (meanings_of_scripts built.now bodies.old) start.now.state start.now.number
+        (map (λ name. name.now) names.now) pairs.now (races_line (length pairs.now))
+        (string_bytes text)) }
 {
     let mut text = String::new(alloc);
-    let count = pairs.len();
+    let (count, number) = (pairs.len(), start.number);
     writeln!(text, "races {count}")?;
     for pair in pairs {
-        push_pair(&mut text, names, *pair)?;
-        let found = witness_of(alloc, built, bodies, first, *pair)?;
-        push_found(alloc, &mut text, names, *pair, found)?;
+        push_pair(&mut text, names, number, *pair)?;
+        let found = witness_of(alloc, built, bodies, &start.state, number, *pair)?;
+        push_found(alloc, &mut text, names, number, *pair, found)?;
     }
     Ok(text)
 }
@@ -82,19 +92,17 @@ fn push_found(
     alloc: Global,
     text: &mut String,
     names: &[&str],
+    number: u32,
     pair: Pair,
     found: Option<Witness>,
 ) -> Result<(), AllocError>
     ensures { OnOk result ((more : List ℕ)
-        × IsFindingText (map (λ name. name.now) names.now) pair found more
+        × IsFindingText (map (λ name. name.now) names.now) number pair found more
         × (string_bytes text.new ≡ string_bytes text.old ++ more)) }
 {
     match found {
-        Some(witness) => push_witness(alloc, text, names, pair, &witness),
-        None => {
-            text.push_str("-- no witness in the first run\n")?;
-            Ok(())
-        }
+        Some(witness) => push_witness(alloc, text, names, number, pair, &witness),
+        None => writeln!(text, "-- no witness in run {number}"),
     }
 }
 

@@ -10,8 +10,9 @@ ghost use Rattle.toml.specs.View.{table_view};
 
 use crate::args::{Args, Work};
 use crate::drawings::{lanes_text, schedule_text};
-use crate::explained::{accepted, explained};
+use crate::explained::{Text, explained};
 use crate::found::{diverge_text, races_text, steps_text};
+use crate::traced::accepted_with;
 use drawing::svg::{OPENER, RULES};
 use findings::Loaded;
 use findings::loading::load;
@@ -124,8 +125,8 @@ fn answer<F: Read>(
             let text = lanes_text(alloc, &loaded, trace, part)?;
             Ok(Shown { text, status: 0 })
         }
-        Work::Races => {
-            let text = races_text(alloc, loaded.file)?;
+        Work::Races(number) => {
+            let text = races_text(alloc, loaded.file, number)?;
             Ok(Shown { text, status: 0 })
         }
         Work::Diverge => {
@@ -136,9 +137,13 @@ fn answer<F: Read>(
             let text = steps_text(alloc, loaded.file, trace, run)?;
             Ok(Shown { text, status: 0 })
         }
-        Work::Explain(denies) => {
-            let shown = accepted(alloc, of.args, of.bytes, of.document, &loaded, denies)?;
-            Ok(shown)
+        Work::Explain(asking) => {
+            let source = Text {
+                bytes: of.bytes,
+                path: of.args.file,
+                document: of.document,
+            };
+            accepted_with(alloc, source, asking, loaded, of.args.trace, trace)
         }
     }
 }

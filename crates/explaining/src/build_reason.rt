@@ -140,30 +140,41 @@ impl<'a> BuildReason<'a> {
     /// What to do.
     pub fn help(self) -> Help<'a> {
         match self {
-            BuildReason::NoItem(_, _, true) => {
-                Help::Words(
-                    "it is a system: `in` names sets; `before` and `after` name systems too",
-                )
-            }
             BuildReason::NoItem(names, name, false) => Help::Near(names, name),
-            BuildReason::Twice(_) => Help::Words("sets and systems share their names: rename one"),
-            BuildReason::InItself(_) | BuildReason::Circle(_) => {
-                Help::Words("take one of these names away")
+            BuildReason::OverLimit(_) => Help::None,
+            other => Help::Words(other.help_words()),
+        }
+    }
+
+    // The same of what is told in words.
+    fn help_words(self) -> &'static str {
+        match self {
+            BuildReason::NoItem(..) => {
+                "it is a system: `in` names sets; `before` and `after` name systems too"
             }
+            BuildReason::Twice(_) => "sets and systems share their names: rename one",
+            BuildReason::InItself(_) | BuildReason::Circle(_) => "take one of these names away",
             BuildReason::OrderedWithItself(_) | BuildReason::Cycle(_) => {
-                Help::Words("take one of these orders away")
+                "take one of these orders away"
             }
-            BuildReason::WithHolder(..) => Help::Words("order it with members of the set"),
-            BuildReason::Sharing(..) => Help::Words("take the system out of one of them"),
+            BuildReason::WithHolder(..) => "order it with members of the set",
+            BuildReason::Sharing(..) => "take the system out of one of them",
+            other => other.help_of_parameters(),
+        }
+    }
+
+    // The same of parameters.
+    fn help_of_parameters(self) -> &'static str {
+        match self {
             BuildReason::Meets(..) => {
-                Help::Words("keep them apart: `with K` in one, `without K` in the other")
+                "keep them apart: `with K` in one, `without K` in the other"
             }
             BuildReason::TouchedTwice(..) | BuildReason::Conflict(_) => {
-                Help::Words("what is written may be read too: name it once")
+                "what is written may be read too: name it once"
             }
-            BuildReason::BadQuery(..) => Help::Words("drop one of these terms"),
-            BuildReason::Writes => Help::Words("a condition only reads: write `read` for `mut`"),
-            BuildReason::OverLimit(_) => Help::None,
+            BuildReason::BadQuery(..) => "drop one of these terms",
+            BuildReason::Writes => "a condition only reads: write `read` for `mut`",
+            _ => "",
         }
     }
 }

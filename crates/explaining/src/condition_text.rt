@@ -9,17 +9,74 @@ use parsing::integer::read_integer;
 // How deep `not`, `and` and `or` may nest.
 const DEEPEST: u32 = 16;
 
-// The conditions, and a form of each.
-const FORMS: &[(&str, &str)] = &[
-    ("run_once", "run_once"),
-    ("resource_equals", "resource_equals(Mode, 1)"),
-    ("resource_at_least", "resource_at_least(Mode, 1)"),
-    ("resource_changed", "resource_changed(Mode)"),
-    ("any_with", "any_with(with Frozen)"),
-    ("on_event", "on_event(Hit)"),
-    ("not", "not(run_once)"),
-    ("and", "and(run_once, on_event(Hit))"),
-    ("or", "or(run_once, on_event(Hit))"),
+// What stands in the brackets of a condition.
+#[derive(Clone, Copy, PartialEq, Eq)]
+enum Inside {
+    // It has none.
+    Nothing,
+    // Words or a query.
+    Words,
+    // A condition.
+    One,
+    // Two conditions.
+    Two,
+}
+
+// A condition: its name, a form of it, and what stands in its brackets.
+#[derive(Clone, Copy)]
+struct Form {
+    name: &'static str,
+    text: &'static str,
+    inside: Inside,
+}
+
+// The conditions.
+const FORMS: &[Form] = &[
+    Form {
+        name: "run_once",
+        text: "run_once",
+        inside: Inside::Nothing,
+    },
+    Form {
+        name: "resource_equals",
+        text: "resource_equals(Mode, 1)",
+        inside: Inside::Words,
+    },
+    Form {
+        name: "resource_at_least",
+        text: "resource_at_least(Mode, 1)",
+        inside: Inside::Words,
+    },
+    Form {
+        name: "resource_changed",
+        text: "resource_changed(Mode)",
+        inside: Inside::Words,
+    },
+    Form {
+        name: "any_with",
+        text: "any_with(with Frozen)",
+        inside: Inside::Words,
+    },
+    Form {
+        name: "on_event",
+        text: "on_event(Hit)",
+        inside: Inside::Words,
+    },
+    Form {
+        name: "not",
+        text: "not(run_once)",
+        inside: Inside::One,
+    },
+    Form {
+        name: "and",
+        text: "and(run_once, on_event(Hit))",
+        inside: Inside::Two,
+    },
+    Form {
+        name: "or",
+        text: "or(run_once, on_event(Hit))",
+        inside: Inside::Two,
+    },
 ];
 
 /// The names of the conditions.
@@ -90,13 +147,20 @@ impl<'t> Reader<'t> {
         let Some(form) = form_of(word.text) else {
             return ended(word, TextReason::NoCondition(word.text));
         };
-        match (rest.behind('('), word.text) {
-            (None, "run_once") => self.at(rest).close(),
-            (Some(_), "run_once") => ended(word, TextReason::NoBrackets(word.text)),
-            (None, _) => ended(word, TextReason::WantsBrackets(word.text, form)),
-            (Some(inside), "not") => self.at(inside).open(word, 0),
-            (Some(inside), "and" | "or") => self.at(inside).open(word, 1),
-            (Some(inside), _) => self.at(inside).leaf(word, form),
+        match rest.behind('(') {
+            Some(inside) => self.at(inside).within(word, form),
+            None if form.inside == Inside::Nothing => self.at(rest).close(),
+            None => ended(word, TextReason::WantsBrackets(word.text, form.text)),
+        }
+    }
+
+    // A condition, behind its opening bracket.
+    fn within(self, word: Word<'t>, form: Form) -> Turn<'t> {
+        match form.inside {
+            Inside::Nothing => ended(word, TextReason::NoBrackets(word.text)),
+            Inside::Words => self.leaf(word, form.text),
+            Inside::One => self.open(word, 0),
+            Inside::Two => self.open(word, 1),
         }
     }
 
@@ -167,9 +231,9 @@ impl<'t> Reader<'t> {
 }
 
 // The form of a condition.
-fn form_of(word: &str) -> Option<&'static str> {
-    for (name, form) in FORMS {
-        if *name == word {
+fn form_of(word: &str) -> Option<Form> {
+    for form in FORMS {
+        if form.name == word {
             return Some(*form);
         }
     }

@@ -70,6 +70,21 @@ fn text_of_near(alloc: Global, names: Names<'_>, word: &str) -> Result<String, A
     }
 }
 
+/// A word, and the name that is similar to it and is to be written in its place, where there is one.
+pub fn name_in<'a>(
+    alloc: Global,
+    help: Help<'a>,
+) -> Result<Option<(&'a str, &'a str)>, AllocError> {
+    let Help::Near(names, word) = help else {
+        return Ok(None);
+    };
+    let list = names.list(alloc)?;
+    match similar(alloc, word, list.as_slice())? {
+        Some(name) => Ok(Some((word, name))),
+        None => Ok(None),
+    }
+}
+
 // What a similar name is called.
 fn similar_words(names: Names<'_>) -> &'static str {
     match names {

@@ -290,12 +290,28 @@ fn of_scalar<'a>(
     if !wants.takes(value) {
         return Some(mistyped(owner, key, item, wants, value));
     }
-    if let Some(text) = value.as_str() {
-        let reason = of_text(wants, text)?;
-        return Some(Found::of(Reason::Key(reason), Target::text(owner, key, item, text)));
+    match value.as_str() {
+        Some(text) => of_name(owner, key, item, wants, text),
+        None if wants == Wants::Number => of_number(owner, key, value.as_integer()?),
+        None => None,
     }
-    let number = value.as_integer()?;
-    if wants != Wants::Number || u32::try_from(number).is_ok() {
+}
+
+// What is refused of a text at a key or in the array there.
+fn of_name<'a>(
+    owner: Owner<'a>,
+    key: &'a str,
+    item: Option<usize>,
+    wants: Wants,
+    text: &'a str,
+) -> Option<Found<'a>> {
+    let reason = of_text(wants, text)?;
+    Some(Found::of(Reason::Key(reason), Target::text(owner, key, item, text)))
+}
+
+// What is refused of an integer that is to have 32 bits.
+fn of_number<'a>(owner: Owner<'a>, key: &'a str, number: i64) -> Option<Found<'a>> {
+    if u32::try_from(number).is_ok() {
         return None;
     }
     let reason = KeyReason::OutOfRange(key, number);

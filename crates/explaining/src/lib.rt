@@ -9,7 +9,7 @@ mod conflicts;
 pub mod explain;
 pub mod finding;
 mod help;
-mod index;
+pub mod index;
 mod keys;
 mod names;
 pub mod orders;
@@ -30,3 +30,4 @@ pub mod word;
 
 pub use finding::Found;
 pub use keys::item_text;
+pub use schedules::order_of;

@@ -127,28 +127,51 @@ fn of_unknown<'a>(document: &'a Table, name: &'a str) -> Option<Found<'a>> {
     let is_system = item_named(document, name, 0).is_some();
     for number in 0..item_count(document) {
         let (owner, table) = item_at(document, number)?;
-        for key in NAME_KEYS {
-            if key == "in" || !is_system {
-                if let Some(target) = named_at(owner, table, key, name) {
-                    let names = if key == "in" {
-                        Names::Sets(document)
-                    } else {
-                        Names::Items(document)
-                    };
-                    let reason = BuildReason::NoItem(names, name, is_system);
-                    return Some(Found::of(Reason::Build(reason), target));
-                }
-            }
+        if let Some(target) = unknown_in(owner, table, name, is_system) {
+            return Some(of_no_item(document, name, is_system, target));
         }
     }
-    for (number, value) in items_at(document, "chain").iter().enumerate() {
+    for number in 0..items_at(document, "chain").len() {
         let owner = Owner::of(document, Place::Chain(number));
-        if let Some(target) = named_at(owner, table_of(value)?, "items", name) {
-            let reason = BuildReason::NoItem(Names::Items(document), name, false);
-            return Some(Found::of(Reason::Build(reason), target));
+        if let Some(target) = named_at(owner, owner.table(document)?, "items", name) {
+            return Some(of_no_item(document, name, false, target));
         }
     }
     None
+}
+
+// The first text of an item that is a name: where that is a system's, of the sets that the item is in.
+fn unknown_in<'a>(
+    owner: Owner<'a>,
+    table: &'a Table,
+    name: &str,
+    is_system: bool,
+) -> Option<Target<'a>> {
+    for key in NAME_KEYS {
+        if key == "in" || !is_system {
+            let target = named_at(owner, table, key, name);
+            if target.is_some() {
+                return target;
+            }
+        }
+    }
+    None
+}
+
+// A name that is none of a set, or of a set or a system.
+fn of_no_item<'a>(
+    document: &'a Table,
+    name: &'a str,
+    is_system: bool,
+    target: Target<'a>,
+) -> Found<'a> {
+    let names = if target.key == "in" {
+        Names::Sets(document)
+    } else {
+        Names::Items(document)
+    };
+    let reason = BuildReason::NoItem(names, name, is_system);
+    Found::of(Reason::Build(reason), target)
 }
 
 // The first two items of a name.
@@ -199,8 +222,8 @@ fn of_sharing<'a>(
     }
 }
 
-// Where an item is ordered before another: itself, or a set that holds it.
-fn order_of<'a>(
+/// Where an item is ordered before another: itself, or a set that holds it.
+pub fn order_of<'a>(
     alloc: Global,
     index: &Index<'a>,
     first: &str,

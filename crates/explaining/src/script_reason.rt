@@ -125,27 +125,50 @@ impl<'a> ScriptReason<'a> {
         }
     }
 
+    /// Whether it is told of the query of its block.
+    pub fn is_of_query(self) -> bool {
+        matches!(
+            self,
+            ScriptReason::NotFetched(..) | ScriptReason::NotMut(..) | ScriptReason::NoEntity(_)
+        )
+    }
+
     /// What to do.
     pub fn help(self) -> Help<'a> {
         match self {
-            ScriptReason::NoQuery(..) => Help::Words("queries are numbered from 0"),
             ScriptReason::OutsideEach(_) => Help::Add("each", "0"),
             ScriptReason::NotFetched(_, kind, ..) => Help::Term("read", kind),
             ScriptReason::NotMut(_, kind, ..) => Help::Term("mut", kind),
-            ScriptReason::NoEntity(_) => Help::Words("add the term `entity` to it"),
-            ScriptReason::EventUnread(_) => Help::Words("add it to `reads`"),
             ScriptReason::OutsideEvents => Help::Add("events", "\"Hit\""),
-            ScriptReason::ResUnread(_) => Help::Words("add it to `res`"),
-            ScriptReason::ResUnwritten(_) => Help::Words("add it to `res_mut`"),
-            ScriptReason::EventUnwritten(_) => Help::Words("add it to `writes`"),
             ScriptReason::NoField(kind, _) => Help::Fields(kind),
             ScriptReason::WrongValues(kind) => Help::Insert(kind),
-            ScriptReason::PastEnd(..) => Help::Words("pass over fewer"),
-            ScriptReason::NoRegister(_) => Help::Words("registers are `r0` to `r7`"),
             ScriptReason::NoCommands(_) => Help::Add("spawns", "0"),
-            ScriptReason::NoSlot(..) => Help::Words("ids are numbered from 0: grant more"),
-            ScriptReason::SpawnedOften(_) => Help::Words("spawn it in a block that runs once"),
-            ScriptReason::SpawnedBefore(_) => Help::Words("spawn another one, and grant more"),
+            other => Help::Words(other.help_words()),
+        }
+    }
+
+    // The same of what is told in words.
+    fn help_words(self) -> &'static str {
+        match self {
+            ScriptReason::NoQuery(..) => "queries are numbered from 0",
+            ScriptReason::NoEntity(_) => "add the term `entity` to it",
+            ScriptReason::EventUnread(_) => "add it to `reads`",
+            ScriptReason::ResUnread(_) => "add it to `res`",
+            ScriptReason::ResUnwritten(_) => "add it to `res_mut`",
+            ScriptReason::EventUnwritten(_) => "add it to `writes`",
+            other => other.help_of_numbers(),
+        }
+    }
+
+    // The same of numbers that are out of range.
+    fn help_of_numbers(self) -> &'static str {
+        match self {
+            ScriptReason::PastEnd(..) => "pass over fewer",
+            ScriptReason::NoRegister(_) => "registers are `r0` to `r7`",
+            ScriptReason::NoSlot(..) => "ids are numbered from 0: grant more",
+            ScriptReason::SpawnedOften(_) => "spawn it in a block that runs once",
+            ScriptReason::SpawnedBefore(_) => "spawn another one, and grant more",
+            _ => "",
         }
     }
 }

@@ -130,13 +130,20 @@ impl<'a> Scope<'a> {
         let Some(Wrong { word, reason }) = self.of_words(cause, Word::whole(text)) else {
             return Some(Found::of(Reason::Other("an instruction is refused"), target));
         };
-        let found = Found::of(Reason::Script(reason), target.within(word));
-        match (reason, self.query_target()) {
-            (ScriptReason::NotFetched(..) | ScriptReason::NotMut(..), Some(query)) => {
-                Some(found.beside(query, "the query"))
-            }
-            (ScriptReason::NoEntity(_), Some(query)) => Some(found.beside(query, "the query")),
-            _ => Some(found),
+        Some(self.with_query(
+            Found::of(Reason::Script(reason), target.within(word)),
+            reason,
+        ))
+    }
+
+    // What is found, with the query beside it where the reason is told of that.
+    fn with_query(self, found: Found<'a>, reason: ScriptReason<'a>) -> Found<'a> {
+        if !reason.is_of_query() {
+            return found;
+        }
+        match self.query_target() {
+            Some(query) => found.beside(query, "the query"),
+            None => found,
         }
     }
 

@@ -1,5 +1,8 @@
 // Where what is marked stands in the text of a file.
 
+ghost use Rattle.std.specs.Prelude.{IfOk, IfSome};
+ghost use Rattle.explaining.specs.Marked.{IsMarked};
+
 use crate::owner::{Owner, array_of};
 use crate::spans::span_at;
 use crate::target::{Part, Target};
@@ -25,8 +28,11 @@ impl<'a> Site<'a> {
         })
     }
 
-    /// Where a target stands, if it is found there.
-    pub fn span_of(&self, alloc: Global, target: Target<'_>) -> Result<Option<Span>, AllocError> {
+    /// Where a target stands, if it is found there. What is marked reads as it.
+    pub fn span_of(&self, alloc: Global, target: Target<'_>) -> Result<Option<Span>, AllocError>
+        ensures { IfOk result (λ found. IfSome found (IsMarked self.now.text.now
+            target.entry.key.now target.entry.part)) }
+    {
         match self.spot_of(alloc, target)? {
             Some(spot) => span_at(alloc, self.text, spot, target.key, target.part),
             None => Ok(None),

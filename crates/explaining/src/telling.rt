@@ -1,48 +1,44 @@
-// What is found, as it is told: a headline, an excerpt, and what to do.
+// What is found, as it is told: a headline, what is marked of the file, and what to do.
 
 use crate::build_reason::BuildReason;
 use crate::finding::Found;
-use crate::help::text_of_help;
+use crate::help::{name_in, text_of_help};
 use crate::index::Index;
 use crate::reason::Reason;
 use crate::schedules::mark_of_step;
 use crate::site::Site;
 use crate::target::Mark;
+use diagnostics::{Finding, Sheet};
 use std::alloc::{AllocError, Global};
 use text_marks::marks::mark_of;
-use text_marks::shown::shown;
 use text_marks::{Excerpt, Span};
 use toml::Table;
-
-// How many characters of a headline, and of what to do, are told at most.
-const MOST_TOLD: usize = 400;
 
 // How many steps of a circle are marked at most.
 const MOST_STEPS: usize = 12;
 
-/// What is told of a file with these bytes at a path that are no document: the headline, the excerpt, what to do, each in lines of its own, and the
-/// beginning of one line more.
-pub fn text_of_bytes(
+/// What is told of a file with these bytes at a path that are no document.
+pub fn finding_of_bytes<'b>(
     alloc: Global,
-    bytes: &[u8],
-    path: &str,
+    bytes: &'b [u8],
+    path: &'b str,
     found: Found<'_>,
-) -> Result<String, AllocError> {
+) -> Result<Finding<'b>, AllocError> {
     let mut excerpt = Excerpt::new(alloc);
     if let Some(span) = found.reason.span() {
         add_span(&mut excerpt, bytes, span, String::new(alloc))?;
     }
-    text_of(alloc, excerpt, path, found.reason)
+    finding_of(alloc, Sheet { path, excerpt }, found.reason)
 }
 
 /// The same of a file that is a document.
-pub fn text_of_document(
+pub fn finding_of_document<'b>(
     alloc: Global,
-    bytes: &[u8],
+    bytes: &'b [u8],
     document: &Table,
-    path: &str,
+    path: &'b str,
     found: Found<'_>,
-) -> Result<String, AllocError> {
+) -> Result<Finding<'b>, AllocError> {
     let mut excerpt = Excerpt::new(alloc);
     let site = Site::of(alloc, str::from_utf8(bytes).unwrap_or(""))?;
     add_mark(alloc, &mut excerpt, &site, found.first)?;
@@ -52,7 +48,7 @@ pub fn text_of_document(
             add_steps(alloc, &mut excerpt, &site, document, reason)?;
         }
     }
-    text_of(alloc, excerpt, path, found.reason)
+    finding_of(alloc, Sheet { path, excerpt }, found.reason)
 }
 
 // Adds a mark for each step of the circle of a reason, of many for the first ones.
@@ -71,83 +67,32 @@ fn add_steps<'a>(
     Ok(())
 }
 
-/// What is told of some marks in a file at a path: a headline, the excerpt, and what to do, each in lines of its own. An empty help is left out.
-pub fn text_of_marks(
+/// What is marked of a file at a path: two targets, where they are found in it.
+pub fn sheet_of<'b>(
     alloc: Global,
-    site: &Site<'_>,
-    path: &str,
-    headline: &str,
+    site: &Site<'b>,
+    path: &'b str,
     marks: [Option<Mark<'_>>; 2],
-    help: &str,
-) -> Result<String, AllocError> {
+) -> Result<Sheet<'b>, AllocError> {
     let mut excerpt = Excerpt::new(alloc);
     add_mark(alloc, &mut excerpt, site, marks[0])?;
     add_mark(alloc, &mut excerpt, site, marks[1])?;
-    text_around(alloc, excerpt, path, headline, help)
+    Ok(Sheet { path, excerpt })
 }
 
-// What is told of a reason, with an excerpt, and the beginning of one line more.
-fn text_of(
+// What is told of a reason, with what is marked.
+fn finding_of<'b>(
     alloc: Global,
-    excerpt: Excerpt<'_>,
-    path: &str,
+    sheet: Sheet<'b>,
     reason: Reason<'_>,
-) -> Result<String, AllocError> {
-    let gutter = excerpt.gutter();
-    let headline = format!(in alloc; "{reason}")?;
+) -> Result<Finding<'b>, AllocError> {
+    let message = format!(in alloc; "{reason}")?;
     let help = text_of_help(alloc, reason.help())?;
-    let mut text = text_around(alloc, excerpt, path, headline.as_str(), help.as_str())?;
-    push_gutter(&mut text, gutter)?;
-    Ok(text)
-}
-
-// A headline, an excerpt, and what to do.
-fn text_around(
-    alloc: Global,
-    excerpt: Excerpt<'_>,
-    path: &str,
-    headline: &str,
-    help: &str,
-) -> Result<String, AllocError> {
-    let mut around = excerpt;
-    let gutter = around.gutter();
-    let headline = shown(alloc, headline.as_bytes())?;
-    let mut text = String::new(alloc);
-    push_line(&mut text, headline.as_str())?;
-    around.push(alloc, &mut text, path)?;
-    push_help(alloc, &mut text, gutter, help)?;
-    Ok(text)
-}
-
-// Adds a line of words, of a long one the beginning.
-fn push_line(text: &mut String, words: &str) -> Result<(), AllocError> {
-    let mut rest = words.chars();
-    for _ in 0..MOST_TOLD {
-        match rest.next() {
-            Some(char) => text.push(char)?,
-            None => return text.push_str("\n"),
-        }
+    let finding = Finding::of(alloc, message, sheet, help)?;
+    match name_in(alloc, reason.help())? {
+        Some((word, new)) => Ok(finding.with_edit(word, String::from_str(alloc, new)?)),
+        None => Ok(finding),
     }
-    match rest.next() {
-        Some(_) => text.push_str("...\n"),
-        None => text.push_str("\n"),
-    }
-}
-
-// Adds what to do, where that is known.
-fn push_help(
-    alloc: Global,
-    text: &mut String,
-    gutter: usize,
-    help: &str,
-) -> Result<(), AllocError> {
-    if help.is_empty() {
-        return Ok(());
-    }
-    push_gutter(text, gutter)?;
-    let line = shown(alloc, help.as_bytes())?;
-    text.push_str(" = help: ")?;
-    push_line(text, line.as_str())
 }
 
 // Adds a mark, where it is found in the file.
@@ -169,23 +114,15 @@ fn add_mark<'a>(
     }
 }
 
-// Adds a mark on a span.
-fn add_span<'a>(
+/// Marks a span of a text.
+pub fn add_span<'a>(
     excerpt: &mut Excerpt<'a>,
     bytes: &'a [u8],
     span: Span,
     label: String,
 ) -> Result<(), AllocError> {
     match mark_of(bytes, span) {
-        Some(mark) => excerpt.add(mark, label),
+        Some(mark) => excerpt.add(mark, span, label),
         None => Ok(()),
     }
-}
-
-// Adds the spaces below the numbers of lines.
-fn push_gutter(text: &mut String, gutter: usize) -> Result<(), AllocError> {
-    for _ in 0..gutter {
-        text.push_str(" ")?;
-    }
-    Ok(())
 }

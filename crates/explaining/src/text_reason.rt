@@ -156,42 +156,54 @@ impl<'a> TextReason<'a> {
     /// What to do.
     pub fn help(self) -> Help<'a> {
         match self {
-            TextReason::OddSpace(_) => Help::Words("use U+0020, the space of the space bar"),
             TextReason::NoTerm(word) => help_of_term(word),
-            TextReason::EmptyTerm => Help::Words("take a comma away, or write a term"),
-            TextReason::TooManyWords(_) => Help::Words("terms have a comma between them"),
             TextReason::WantsKind(_) => Help::Near(Names::Kinds, ""),
             TextReason::NoAlternative(word) => Help::Near(Names::Words(&["with", "without"]), word),
-            TextReason::OrCount(_) => Help::Write("or with Frozen with Hidden"),
-            TextReason::ThirdOr => Help::Words("make two queries of it"),
             TextReason::NoKind(word) => Help::Near(Names::Kinds, word),
             TextReason::NoResource(word) => Help::Near(Names::Resources, word),
             TextReason::NoEvent(word) => Help::Near(Names::Events, word),
-            TextReason::NoInteger(_) => {
-                Help::Words("write decimal digits, with a minus before them or not")
-            }
-            other => other.help_of_other(),
+            TextReason::NoCondition(word) => help_of_condition(word),
+            TextReason::NoInstruction(word) => help_of_instruction(word),
+            TextReason::NoOperand(_, operand) => help_of_operand(operand),
+            other => other.help_in_words(),
         }
     }
 
-    // The same of a condition and an instruction.
-    fn help_of_other(self) -> Help<'a> {
+    // The same of what is told in words, or by a form to write.
+    fn help_in_words(self) -> Help<'a> {
+        let form = self.form();
+        if form.is_empty() {
+            Help::Words(self.help_words())
+        } else {
+            Help::Write(form)
+        }
+    }
+
+    // The form to write; empty where it is told in words what to do.
+    fn form(self) -> &'static str {
         match self {
-            TextReason::NoCondition(word) => help_of_condition(word),
-            TextReason::NothingThere => Help::Write("run_once"),
-            TextReason::NoBrackets(_) => Help::Write("run_once"),
-            TextReason::WantsBrackets(_, form) | TextReason::WrongParts(_, form) => {
-                Help::Write(form)
-            }
-            TextReason::Unclosed => Help::Words("`)` is wanted here"),
-            TextReason::WantsTwo => Help::Write("and(run_once, on_event(Hit))"),
-            TextReason::MoreBehind => Help::Words("two conditions are two texts, or `and(.., ..)`"),
-            TextReason::TooDeep => Help::Words("give a set above it a condition of its own"),
-            TextReason::EmptyCode => Help::Words("take it away, or write one: `set Total 1`"),
-            TextReason::NoInstruction(word) => help_of_instruction(word),
-            TextReason::WantsMore(_, form) | TextReason::WantsFewer(_, form) => Help::Write(form),
-            TextReason::NoOperand(_, operand) => help_of_operand(operand),
-            _ => Help::None,
+            TextReason::OrCount(_) => "or with Frozen with Hidden",
+            TextReason::NothingThere | TextReason::NoBrackets(_) => "run_once",
+            TextReason::WantsBrackets(_, form) | TextReason::WrongParts(_, form) => form,
+            TextReason::WantsTwo => "and(run_once, on_event(Hit))",
+            TextReason::WantsMore(_, form) | TextReason::WantsFewer(_, form) => form,
+            _ => "",
+        }
+    }
+
+    // What to do, in words.
+    fn help_words(self) -> &'static str {
+        match self {
+            TextReason::OddSpace(_) => "use U+0020, the space of the space bar",
+            TextReason::EmptyTerm => "take a comma away, or write a term",
+            TextReason::TooManyWords(_) => "terms have a comma between them",
+            TextReason::ThirdOr => "make two queries of it",
+            TextReason::NoInteger(_) => "write decimal digits, with a minus before them or not",
+            TextReason::Unclosed => "`)` is wanted here",
+            TextReason::MoreBehind => "two conditions are two texts, or `and(.., ..)`",
+            TextReason::TooDeep => "give a set above it a condition of its own",
+            TextReason::EmptyCode => "take it away, or write one: `set Total 1`",
+            _ => "",
         }
     }
 }

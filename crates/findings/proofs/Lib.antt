@@ -2,6 +2,7 @@ pub mod Apart
 pub mod Fitting
 pub mod Partings
 pub mod Rows
+pub mod RunsBehind
 pub mod Scenes
 pub mod SetsFound
 pub mod SetsLoaded

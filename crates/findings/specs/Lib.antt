@@ -1,4 +1,5 @@
 pub mod Apart
+pub mod Behind
 pub mod Loaded
 pub mod Parting
 pub mod Refusals

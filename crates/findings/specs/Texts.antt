@@ -1,5 +1,5 @@
 -- The texts of what is found: pairs that race with their witnesses, and where two traces part.
-use Rattle.std.specs.Prelude.{ℕ, ◌+◌, ◌≡◌, ◌≢◌, ◌<◌, ◌^◌, ◌==◌, ◌↔◌, ◌⊎◌, Bool, false, cond, List, [], ◌∷◌, ◌++◌, codes, decimal, flat_map, get_or, length, Option, Some, None, string_bytes}
+use Rattle.std.specs.Prelude.{ℕ, ◌+◌, ◌≡◌, ◌≢◌, ◌<◌, ◌^◌, ◌==◌, ◌↔◌, ◌⊎◌, Bool, false, cond, List, [], ◌∷◌, ◌++◌, codes, decimal, flat_map, get_or, length, reverse, Option, Some, None, string_bytes}
 use Rattle.std.specs.List.{before_first, position_or_len, slice_get}
 use Rattle.std.specs.Option.{option_to_list}
 use Rattle.std.specs.Str.{bytes_eq}
@@ -7,6 +7,7 @@ use Rattle.std.specs.Str.Lines.{lines}
 use Rattle.std.specs.Str.Parse.{IsNumeral, digits_value, without_leading_plus}
 use Rattle.ambiguity_report.specs.declared.report.Pair.{Pair}
 use Rattle.model.specs.declared.steps.Step.{Step}
+use Rattle.model.specs.declared.steps.Step.TheVariants.{Cond, Start, Skip, Finish, Sync}
 use Rattle.printing.specs.ReportText.{pair_line, racer_text}
 use Rattle.trace_checker.specs.Grammar.{lines_text, run_lines, step_text}
 use Rattle.findings.specs.Apart.{IsFirstApart}
@@ -109,25 +110,39 @@ IsSideOf line side = (side ≡ None) ⊎ (side ≡ line)
 
 -- ---- a pair and its witness
 
--- the line of a pair: its names, and on what the two conflict
-abbrev pub pair_text : List (List ℕ) → Pair → List ℕ
-pair_text names pair = codes "== " ++ pair_line names pair
+-- the line of a pair: its names, and on what the two conflict; and behind it that of the run, by its number, that is looked at
+abbrev pub pair_text : List (List ℕ) → ℕ → Pair → List ℕ
+pair_text names number pair = (codes "== " ++ pair_line names pair) ++ (codes "-- run " ++ (decimal number ++ (codes " alone" ++ 10 ∷ [])))
 
 -- the line of what comes first in a list
 abbrev pub order_line : List ℕ → List ℕ
 order_line name = codes "-- " ++ name ++ codes " first" ++ 10 ∷ []
 
--- a list, and the world that it leaves
-abbrev pub left_text : RunOutcome → List ℕ
-left_text t = lines_text (run_lines 1 t.list) ++ codes "-- leaves" ++ (10 ∷ []) ++ string_bytes t.world
+-- a step by the name of its system: a start, a skip, a condition with its answer, a sync point
+abbrev pub named_step : List (List ℕ) → Step → List ℕ
+named_step names (Start n) = 32 ∷ get_or names n []
+named_step names (Skip n) = 32 ∷ get_or names n [] ++ codes "=skipped"
+named_step names (Cond c answer) = codes " #" ++ (decimal c ++ cond answer (codes "=yes") (codes "=no"))
+named_step names (Finish n) = []
+named_step names (Sync k) = codes " |"
+
+-- the line of steps by names
+abbrev pub named_line : List (List ℕ) → List Step → List ℕ
+named_line names steps = codes "-- order" ++ (flat_map (named_step names) steps ++ 10 ∷ [])
+
+-- a list of the run of this number, its steps by names, and the world that it leaves
+abbrev pub left_text : List (List ℕ) → ℕ → RunOutcome → List ℕ
+left_text names number t =
+    lines_text (run_lines number t.list) ++ (named_line names (reverse t.list.steps) ++ (codes "-- leaves" ++ (10 ∷ string_bytes t.world)))
 
 -- both lists of a witness, each behind the line of what comes first in it
-abbrev pub orders_text : List (List ℕ) → Pair → Witness → List ℕ
-orders_text names pair w = order_line (racer_text names pair.first) ++ left_text w.before ++ order_line (get_or names pair.second []) ++ left_text w.behind
+abbrev pub orders_text : List (List ℕ) → ℕ → Pair → Witness → List ℕ
+orders_text names number pair w = order_line (racer_text names pair.first) ++ left_text names number w.before ++ order_line (get_or names pair.second []) ++ left_text names number w.behind
 
 -- the text of a witness: both lists with the worlds that they leave, and the first line in which these differ
-abbrev pub IsWitnessText : List (List ℕ) → Pair → Witness → List ℕ → Type 0
-IsWitnessText names pair w text = (rest : List ℕ) × IsDifference (string_bytes w.before.world) (string_bytes w.behind.world) rest × (text ≡ orders_text names pair w ++ rest)
+abbrev pub IsWitnessText : List (List ℕ) → ℕ → Pair → Witness → List ℕ → Type 0
+IsWitnessText names number pair w text =
+    (rest : List ℕ) × IsDifference (string_bytes w.before.world) (string_bytes w.behind.world) rest × (text ≡ orders_text names number pair w ++ rest)
 
 -- ---- where two traces part, which have so many runs
 

@@ -39,19 +39,20 @@ abbrev pub is_in_turn : Racer → ℕ → Bool → List Step → Bool
 is_in_turn r n swapped [] = false
 is_in_turn r n swapped (step ∷ steps) = cond (is_of_racer r step) (not swapped) (cond (begins n step) swapped (is_in_turn r n swapped steps))
 
--- the text is that of the world that a recorded run leaves: it is lawful and complete, with true answers, and its meaning, interleaved and serial, is that
--- world
-pub record IsLeftBy (s : Schedule) (bodies : List BodyMeaning) (start : State) (r : Recorded) (text : List ℕ) : Type 0 where
+-- the text is that of the world that a recorded run of this number leaves: it is lawful and complete, with true answers, and its meaning, interleaved and
+-- serial, is that world
+pub record IsLeftBy (s : Schedule) (bodies : List BodyMeaning) (start : State) (number : ℕ) (r : Recorded) (text : List ℕ) : Type 0 where
   pub final : State
   pub replayed : IsReplayed (recording s r.sets) bodies start r.steps final
-  pub world : text ≡ world_text 1 final
+  pub world : text ≡ world_text number final
 
--- a list of one run from a state, with the text of the world that it leaves, in which of a pair the first, or where they are swapped the system, comes first
-pub record IsOutcome (s : Schedule) (bodies : List BodyMeaning) (start : State) (r : Racer) (n : ℕ) (swapped : Bool) (t : RunOutcome) : Type 0 where
+-- a list of the run of this number from a state, with the text of the world that it leaves, in which of a pair the first, or where they are swapped the system,
+-- comes first
+pub record IsOutcome (s : Schedule) (bodies : List BodyMeaning) (start : State) (number : ℕ) (r : Racer) (n : ℕ) (swapped : Bool) (t : RunOutcome) : Type 0 where
   pub order : is_in_turn r n swapped (reverse t.list.steps) ≡ true
-  pub left : IsLeftBy s bodies start t.list (string_bytes t.world)
+  pub left : IsLeftBy s bodies start number t.list (string_bytes t.world)
 
 -- both lists of a pair
-pub record IsWitness (s : Schedule) (bodies : List BodyMeaning) (start : State) (p : Pair) (w : Witness) : Type 0 where
-  pub before : IsOutcome s bodies start p.first p.second false w.before
-  pub behind : IsOutcome s bodies start p.first p.second true w.behind
+pub record IsWitness (s : Schedule) (bodies : List BodyMeaning) (start : State) (number : ℕ) (p : Pair) (w : Witness) : Type 0 where
+  pub before : IsOutcome s bodies start number p.first p.second false w.before
+  pub behind : IsOutcome s bodies start number p.first p.second true w.behind

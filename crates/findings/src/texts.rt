@@ -1,9 +1,9 @@
 // The texts of what is found.
 
-ghost use Rattle.std.specs.Prelude.{◌≡◌, ◌≢◌, ◌≤◌, ◌<◌, ◌+◌, ◌||◌, ◌++◌, ℕ, List, true, false, length, map, slice_get, option_map, option_to_list, is_some, IfSome, IfNone, IfOk, OnOk, string_bytes};
+ghost use Rattle.std.specs.Prelude.{◌≡◌, ◌≢◌, ◌≤◌, ◌<◌, ◌+◌, ◌||◌, ◌++◌, ℕ, List, true, false, length, map, slice_get, flat_map, option_map, option_to_list, is_some, IfSome, IfNone, IfOk, OnOk, string_bytes};
 ghost use Rattle.std.specs.Str.Lines.{lines};
 ghost use Rattle.findings.specs.Apart.{IsFirstApart};
-ghost use Rattle.findings.specs.Texts.{AreRows, IsApart, IsApartBy, IsDifference, IsInPlace, IsOfEntity, IsPartingText, IsSideOf, IsWitnessText, agreement_line, apart_text, is_same, left_text, line_at, marked_line, orders_text, pair_text, place_line, row_text, step_or_none};
+ghost use Rattle.findings.specs.Texts.{AreRows, IsApart, IsApartBy, IsDifference, IsInPlace, IsOfEntity, IsPartingText, IsSideOf, IsWitnessText, agreement_line, apart_text, is_same, left_text, line_at, marked_line, named_line, named_step, orders_text, pair_text, place_line, row_text, step_or_none};
 
 use crate::diverging::{Parting, Place};
 use crate::witness::{RunOutcome, Witness};
@@ -15,28 +15,35 @@ use std::alloc::{AllocError, Global};
 use trace_checker::Line;
 use trace_checker::write::push_run;
 
-/// Adds a pair: its names, and on what the two conflict.
-pub fn push_pair(text: &mut String, names: &[&str], pair: Pair) -> Result<(), AllocError>
+/// Adds a pair: its names, and on what the two conflict; and the number of the run that is looked at.
+pub fn push_pair(
+    text: &mut String,
+    names: &[&str],
+    number: u32,
+    pair: Pair,
+) -> Result<(), AllocError>
     ensures { OnOk result (string_bytes text.new
-        ≡ string_bytes text.old ++ pair_text (map (λ name. name.now) names.now) pair) }
+        ≡ string_bytes text.old ++ pair_text (map (λ name. name.now) names.now) number pair) }
 {
     text.push_str("== ")?;
-    report::push_pair(text, names, pair)
+    report::push_pair(text, names, pair)?;
+    writeln!(text, "-- run {number} alone")
 }
 
-/// Adds a witness of a pair: both lists with the worlds that they leave, and the first line in which these differ.
+/// Adds a witness of a pair, in the run of this number: both lists with the worlds that they leave, and the first line in which these differ.
 pub fn push_witness(
     alloc: Global,
     text: &mut String,
     names: &[&str],
+    number: u32,
     pair: Pair,
     witness: &Witness,
 ) -> Result<(), AllocError>
     ensures { OnOk result ((more : List ℕ)
-        × IsWitnessText (map (λ name. name.now) names.now) pair witness.now more
+        × IsWitnessText (map (λ name. name.now) names.now) number pair witness.now more
         × (string_bytes text.new ≡ string_bytes text.old ++ more)) }
 {
-    push_orders(text, names, pair, witness)?;
+    push_orders(text, names, number, pair, witness)?;
     push_difference(
         alloc,
         text,
@@ -50,30 +57,86 @@ pub fn push_witness(
 fn push_orders(
     text: &mut String,
     names: &[&str],
+    number: u32,
     pair: Pair,
     witness: &Witness,
 ) -> Result<(), AllocError>
     ensures { OnOk result (string_bytes text.new
         ≡ string_bytes text.old
-        ++ orders_text (map (λ name. name.now) names.now) pair witness.now) }
+        ++ orders_text (map (λ name. name.now) names.now) number pair witness.now) }
 {
     text.push_str("-- ")?;
     push_racer(text, names, pair.first)?;
     text.push_str(" first\n")?;
-    push_left(text, &witness.before)?;
+    push_left(text, names, number, &witness.before)?;
     let name = name_of(names, pair.second);
     writeln!(text, "-- {name} first")?;
-    push_left(text, &witness.behind)
+    push_left(text, names, number, &witness.behind)
 }
 
-// Adds a list and the world that it leaves.
-fn push_left(text: &mut String, outcome: &RunOutcome) -> Result<(), AllocError>
-    ensures { OnOk result (string_bytes text.new ≡ string_bytes text.old ++ left_text outcome.now) }
+// Adds a list, its steps by names, and the world that it leaves.
+fn push_left(
+    text: &mut String,
+    names: &[&str],
+    number: u32,
+    outcome: &RunOutcome,
+) -> Result<(), AllocError>
+    ensures { OnOk result (string_bytes text.new
+        ≡ string_bytes text.old
+        ++ left_text (map (λ name. name.now) names.now) number outcome.now) }
 {
-    push_run(text, 1, &outcome.list)?;
+    push_run(text, number, &outcome.list)?;
+    push_named(text, names, outcome.list.steps())?;
     text.push_str("-- leaves\n")?;
     text.push_str(outcome.world.as_str())?;
     Ok(())
+}
+
+// Adds the line of steps by the names of their systems.
+fn push_named(text: &mut String, names: &[&str], steps: &[Step]) -> Result<(), AllocError>
+    ensures { OnOk result (string_bytes text.new
+        ≡ string_bytes text.old ++ named_line (map (λ name. name.now) names.now) steps.now) }
+{
+    text.push_str("-- order")?;
+    push_named_steps(text, names, steps)?;
+    text.push_str("\n")?;
+    Ok(())
+}
+
+// Adds these steps by the names of their systems.
+fn push_named_steps(text: &mut String, names: &[&str], steps: &[Step]) -> Result<(), AllocError>
+    ensures { OnOk result (string_bytes text.new
+        ≡ string_bytes text.old
+        ++ flat_map (named_step (map (λ name. name.now) names.now)) steps.now) }
+{
+    for step in steps {
+        push_named_step(text, names, *step)?;
+    }
+    Ok(())
+}
+
+// Adds a step by the name of its system.
+fn push_named_step(text: &mut String, names: &[&str], step: Step) -> Result<(), AllocError>
+    ensures { OnOk result (string_bytes text.new
+        ≡ string_bytes text.old ++ named_step (map (λ name. name.now) names.now) step) }
+{
+    match step {
+        Step::Start(system) => {
+            let name = name_of(names, system);
+            write!(text, " {name}")
+        }
+        Step::Skip(system) => {
+            let name = name_of(names, system);
+            write!(text, " {name}=skipped")
+        }
+        Step::Cond(condition, true) => write!(text, " #{condition}=yes"),
+        Step::Cond(condition, false) => write!(text, " #{condition}=no"),
+        Step::Finish(_) => Ok(()),
+        Step::Sync(_) => {
+            text.push_str(" |")?;
+            Ok(())
+        }
+    }
 }
 
 // Adds the first line in which two texts differ, or that they are equal.

@@ -18,7 +18,7 @@ use script::ScriptBody;
 use state_lines::world::text_of_world;
 use std::alloc::{AllocError, Global};
 
-/// A complete lawful list of the first run, with the text of the world that it leaves.
+/// A complete lawful list of a run, with the text of the world that it leaves.
 #[derive(Drop)]
 pub struct RunOutcome {
     /// The list.
@@ -36,27 +36,28 @@ pub struct Witness {
     pub behind: RunOutcome,
 }
 
-/// A witness of a pair, from the state with which the first run begins. In each of its lists the two come in one of
-/// the orders. The list is lawful and complete, with true answers. None where no list was found.
+/// A witness of a pair, in the run of this number, from the state with which it begins. In each of its lists the two
+/// come in one of the orders. The list is lawful and complete, with true answers. None where no list was found.
 pub fn witness_of(
     alloc: Global,
     built: &Built,
     bodies: &mut [ScriptBody],
     first: &State,
+    number: u32,
     pair: Pair,
 ) -> Result<Option<Witness>, Fault>
     requires { HasMemories built.now first.now }
     ensures refused { IfErr result (IsUnwitnessed built.now
-        (meanings_of_scripts built.now bodies.old) first.now) }
+        (meanings_of_scripts built.now bodies.old) first.now number) }
     ensures witness { IfOk result (λ found. IfSome found (IsWitness built.now
-        (meanings_of_scripts built.now bodies.old) first.now pair)) }
+        (meanings_of_scripts built.now bodies.old) first.now number pair)) }
     ensures meanings { meanings_of_scripts built.now bodies.new
         ≡ meanings_of_scripts built.now bodies.old }
 {
-    let Some(before) = outcome_in(alloc, built, bodies, first, turn_of(pair, false))? else {
+    let Some(before) = outcome_in(alloc, built, bodies, first, number, turn_of(pair, false))? else {
         return Ok(None);
     };
-    let Some(behind) = outcome_in(alloc, built, bodies, first, turn_of(pair, true))? else {
+    let Some(behind) = outcome_in(alloc, built, bodies, first, number, turn_of(pair, true))? else {
         return Ok(None);
     };
     Ok(Some(Witness { before, behind }))
@@ -83,13 +84,14 @@ fn outcome_in(
     built: &Built,
     bodies: &mut [ScriptBody],
     first: &State,
+    number: u32,
     turn: Turn,
 ) -> Result<Option<RunOutcome>, Fault>
     requires { HasMemories built.now first.now }
     ensures refused { IfErr result (IsUnwitnessed built.now
-        (meanings_of_scripts built.now bodies.old) first.now) }
+        (meanings_of_scripts built.now bodies.old) first.now number) }
     ensures outcome { IfOk result (λ found. IfSome found (IsOutcome built.now
-        (meanings_of_scripts built.now bodies.old) first.now turn.racer turn.system
+        (meanings_of_scripts built.now bodies.old) first.now number turn.racer turn.system
         turn.swapped)) }
     ensures meanings { meanings_of_scripts built.now bodies.new
         ≡ meanings_of_scripts built.now bodies.old }
@@ -103,7 +105,7 @@ fn outcome_in(
         if !are_fitting(built, bodies) {
             return Ok(None);
         }
-        match left_by(alloc, built, bodies, first, &list) {
+        match left_by(alloc, built, bodies, first, &list, number) {
             Ok(world) => return Ok(Some(RunOutcome { list, world })),
             Err(Fault::WrongAnswer { step, .. }) => turn_answer(&mut answers, list.steps(), step),
             Err(fault) => return Err(fault),
@@ -112,29 +114,31 @@ fn outcome_in(
     Ok(None)
 }
 
-// The text of the world that a list of the first run leaves.
+// The text of the world that a list of the run of this number leaves.
 fn left_by(
     alloc: Global,
     built: &Built,
     bodies: &mut [ScriptBody],
     first: &State,
     list: &Trace,
+    number: u32,
 ) -> Result<String, Fault>
     requires { Suits script_suits built.now (map Some bodies.old) first.now }
     ensures refused { IfErr result (IsRefusedRun built.now
-        (meanings_of_scripts built.now bodies.old) first.now list.now 1) }
+        (meanings_of_scripts built.now bodies.old) first.now list.now number) }
     ensures left { IfOk result (λ text. IsLeftBy built.now
-        (meanings_of_scripts built.now bodies.old) first.now list.now (string_bytes text)) }
+        (meanings_of_scripts built.now bodies.old) first.now number list.now (string_bytes
+        text)) }
     ensures meanings { meanings_of_scripts built.now bodies.new
         ≡ meanings_of_scripts built.now bodies.old }
 {
     let start = first.copy(alloc)?;
-    let left = replay_run(alloc, built, bodies, start, list, 1)?;
-    Ok(text_of_world(alloc, 1, left.world(), left.passed_over())?)
+    let left = replay_run(alloc, built, bodies, start, list, number as usize)?;
+    Ok(text_of_world(alloc, number, left.world(), left.passed_over())?)
 }
 
-// Whether each script fits its system.
-fn are_fitting(built: &Built, bodies: &[ScriptBody]) -> bool
+/// Whether each script fits its system.
+pub(crate) fn are_fitting(built: &Built, bodies: &[ScriptBody]) -> bool
     ensures { IsTrue result → AreScriptsOf built.now bodies.now }
 {
     if bodies.len() != built.count() as usize {
@@ -157,8 +161,8 @@ fn is_fitting(built: &Built, bodies: &[ScriptBody], system: u32) -> bool
     bodies[system as usize].fits(built.params(system))
 }
 
-// Turns the answer of the condition that the step of this number asks, counted from 1.
-fn turn_answer(answers: &mut Vec<bool>, steps: &[Step], step: usize) {
+/// Turns the answer of the condition that the step of this number asks, counted from 1.
+pub(crate) fn turn_answer(answers: &mut Vec<bool>, steps: &[Step], step: usize) {
     if let Some(Step::Cond(condition, answer)) = steps.get(step.saturating_sub(1)) {
         let place = *condition as usize;
         if place < answers.len() {

@@ -20,20 +20,22 @@ use Rattle.script.specs.declared.script_body.Rounds.TheVariants.{EachRow, EachEv
 use Rattle.lints.specs.declared.deeds.Deed.{Deed}
 use Rattle.lints.specs.declared.deeds.Deed.TheVariants as deed
 use Rattle.lints.specs.declared.deeds.Thing.{Thing}
-use Rattle.lints.specs.declared.deeds.Thing.TheVariants.{Component, Resource}
+use Rattle.lints.specs.declared.deeds.Thing.TheVariants.{Component, Resource, Register}
 
 -- ---- words of instructions
 
--- what is read is a field of a component, or a resource
+-- what is read is a field of a component, a resource or a register
 abbrev pub is_source : Thing → Source → Bool
 is_source (Component kind) (source.Field field) = kind_number field.kind == kind_number kind
 is_source (Resource res) (source.Resource other) = res_number other == res_number res
+is_source (Register register) (source.Register other) = other == register
 is_source _ _ = false
 
 -- what is written is
 abbrev pub is_target : Thing → Target → Bool
 is_target (Component kind) (target.Field field) = kind_number field.kind == kind_number kind
 is_target (Resource res) (target.Resource other) = res_number other == res_number res
+is_target (Register register) (target.Register other) = other == register
 is_target _ _ = false
 
 -- one of the values of a component is; of more than two it is not known, and no script has them
@@ -58,6 +60,7 @@ is_slot slot (Granted other) = other == slot
 abbrev pub is_component : Thing → Kind → Bool
 is_component (Component own) kind = kind_number kind == kind_number own
 is_component (Resource res) kind = false
+is_component (Register register) kind = false
 
 -- a thing is read, written or asked for
 abbrev pub uses : Thing → Instruction → Bool
@@ -67,6 +70,15 @@ uses thing (Has kind passed) = is_component thing kind
 uses thing (Emit event source) = is_source thing source
 uses thing (Insert subject kind values) = in_values thing values
 uses thing _ = false
+
+-- a thing is read or asked for
+abbrev pub reads : Thing → Instruction → Bool
+reads thing (Change operation target source) = is_source thing source
+reads thing (Compare relation left right passed) = is_source thing left || is_source thing right
+reads thing (Has kind passed) = is_component thing kind
+reads thing (Emit event source) = is_source thing source
+reads thing (Insert subject kind values) = in_values thing values
+reads thing _ = false
 
 -- a thing is written
 abbrev pub writes : Thing → Instruction → Bool
@@ -110,6 +122,7 @@ inserts kind _ = false
 abbrev pub does : Deed → Instruction → Bool
 does deed.Anything instruction = true
 does (deed.Uses thing) instruction = uses thing instruction
+does (deed.Reads thing) instruction = reads thing instruction
 does (deed.Writes thing) instruction = writes thing instruction
 does (deed.Emits event) instruction = emits (event_number event) instruction
 does deed.Commands instruction = is_command instruction

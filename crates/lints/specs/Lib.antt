@@ -1,4 +1,7 @@
 pub mod Collected
+pub mod Constants
 pub mod Deeds
+pub mod Kinds
+pub mod Repeats
 pub mod Skips
 pub mod Lints

@@ -1,43 +1,44 @@
 -- What of a program file is likely a mistake.
 use Rattle.std.specs.Prelude.{ℕ, ℤ, pos, ◌-◌, ◌==◌, nat_le, nat_lt, Bool, true, false, not, ◌&&◌, ◌||◌, List, [], ◌∷◌, get_or, length, map, Option, if◌then◌else◌, Vec}
 use Rattle.std.specs.declared.alloc.Global.{Global}
-use Rattle.std.specs.List.{HoldsAt, list_any}
+use Rattle.std.specs.List.{HoldsAt, count_by, list_any}
 use Rattle.std.specs.Option.{is_some, unwrap_or}
 use Rattle.std.specs.Ordering.{int_eq}
 use Rattle.ambiguity_report.specs.declared.report.Pair.{Pair}
 use Rattle.kinds.specs.Kind.{kind_count, kind_number}
 use Rattle.kinds.specs.Res.{event_number, every_res, res_number}
 use Rattle.kinds.specs.declared.kind.Kind.{Kind}
-use Rattle.kinds.specs.declared.kind.Kind.TheVariants.{Position, Velocity, Health, Damage, Team, Timer, Score, Energy, Charge, Target, Frozen, Hidden, Home, Mass, Armor, Range, Level, Rank, Sleeping, Marked}
+use Rattle.kinds.specs.declared.kind.Kind.TheVariants.{Position}
 use Rattle.kinds.specs.declared.res.Event.{Event}
 use Rattle.kinds.specs.declared.res.Event.TheVariants.{Hit, Heal, Spark, Done}
 use Rattle.kinds.specs.declared.res.Res.{Res}
 use Rattle.kinds.specs.declared.res.Res.TheVariants.{Round}
 use Rattle.kinds.specs.Value.{value_number}
 use Rattle.kinds.specs.declared.value.Value.{Value}
-use Rattle.model.specs.Lists.{has, is_number}
+use Rattle.model.specs.Lists.{has}
 use Rattle.model.specs.access.Access.{names_resource}
 use Rattle.model.specs.access.Condition.{access_of_condition}
 use Rattle.model.specs.access.Query.{Term, writes as query_writes}
 use Rattle.model.specs.access.Query.Term.{Entity, Opt, Read}
-use Rattle.model.specs.access.QueryFaults.{required}
 use Rattle.model.specs.steps.Schedule.{Schedule, ScheduledCondition, ScheduledSystem}
+use Rattle.program_file.specs.declared.program_file.ChainTable.{ChainTable}
 use Rattle.program_file.specs.declared.program_file.ProgramFile.{ProgramFile}
 use Rattle.program_file.specs.declared.program_file.SystemTable.{SystemTable}
 use Rattle.script.specs.declared.instruction.Instruction.{Instruction}
 use Rattle.script.specs.declared.script_body.Block.{Block}
 use Rattle.lints.specs.Collected.{Adds, Among, Either, Told, Tested}
 use Rattle.lints.specs.Deeds.{done_at, done_by, hears}
+use Rattle.lints.specs.Constants.{IsOfCondition}
+use Rattle.lints.specs.Kinds.{every_kind, requires_kind}
+use Rattle.lints.specs.Repeats.{IsOfItem, IsOfSetItem}
 use Rattle.lints.specs.Skips.{IsUnreachable, crosses}
 use Rattle.lints.specs.declared.deeds.Deed.TheVariants as deed
-use Rattle.lints.specs.declared.deeds.Thing.TheVariants.{Component, Resource}
+use Rattle.lints.specs.declared.deeds.Thing.TheVariants.{Component, Resource, Register}
+use Rattle.lints.specs.declared.lint.Holder.TheVariants.{System}
 use Rattle.lints.specs.declared.lint.Lint.{Lint}
 use Rattle.lints.specs.declared.lint.Lint.TheVariants as lint
 
 -- ---- kinds, resources and event kinds, by number
-
-abbrev pub every_kind : List Kind
-every_kind = Position ∷ Velocity ∷ Health ∷ Damage ∷ Team ∷ Timer ∷ Score ∷ Energy ∷ Charge ∷ Target ∷ Frozen ∷ Hidden ∷ Home ∷ Mass ∷ Armor ∷ Range ∷ Level ∷ Rank ∷ Sleeping ∷ Marked ∷ []
 
 abbrev pub every_event : List Event
 every_event = Hit ∷ Heal ∷ Spark ∷ Done ∷ []
@@ -63,12 +64,9 @@ is_reading kind (Read own) = own == kind
 is_reading kind (Opt own) = own == kind
 is_reading kind _ = false
 
--- a query has such a term; it requires a kind; it shows the entities of its rows
+-- a query has such a term; it shows the entities of its rows
 abbrev pub reads : List Term → ℕ → Bool
 reads query kind = list_any (is_reading kind) query
-
-abbrev pub requires_kind : List Term → ℕ → Bool
-requires_kind query kind = list_any (λ t. is_number kind (required t)) query
 
 abbrev pub is_entity : Term → Bool
 is_entity Entity = true
@@ -115,6 +113,13 @@ has_res list res = list_any (λ own. res_number own == res_number res) list
 abbrev pub has_event : List Event → Event → Bool
 has_event list event = list_any (λ own. event_number own == event_number event) list
 
+-- one stands twice among some
+abbrev pub is_res_twice : List Res → Res → Bool
+is_res_twice list res = nat_lt 1 (count_by (λ own. res_number own == res_number res) list)
+
+abbrev pub is_event_twice : List Event → Event → Bool
+is_event_twice list event = nat_lt 1 (count_by (λ own. event_number own == event_number event) list)
+
 -- a resource is read (`res`) and never used, or written (`res_mut`) and never so
 abbrev pub is_unread_res : List Block → List Res → Res → Bool
 is_unread_res blocks list res = works blocks && (has_res list res && not (done_by (deed.Uses (Resource res)) blocks))
@@ -130,13 +135,13 @@ abbrev pub is_unused_writes : List Block → List Event → Event → Bool
 is_unused_writes blocks list event = works blocks && (has_event list event && not (done_by (deed.Emits event) blocks))
 
 abbrev pub IsOfRes : SystemTable → ℕ → Res → Lint → Type 0
-IsOfRes t system res = Either (Tested (is_unread_res t.blocks.items t.res.items res) (lint.UnreadRes system res)) (Tested (is_unused_res_mut t.blocks.items t.res_mut.items res) (lint.UnusedResMut system res))
+IsOfRes t system res = Either (Tested (is_unread_res t.blocks.items t.res.items res) (lint.UnreadRes system res)) (Either (Tested (is_unused_res_mut t.blocks.items t.res_mut.items res) (lint.UnusedResMut system res)) (Tested (is_res_twice t.res.items res) (lint.RepeatedRes system res)))
 
 unfoldable pub IsOfResources : SystemTable → ℕ → ℕ → Lint → Type 0
 IsOfResources t system n = IsOfRes t system (res_at n)
 
 abbrev pub IsOfEvent : SystemTable → ℕ → Event → Lint → Type 0
-IsOfEvent t system event = Either (Tested (is_unread_events t.blocks.items t.reads.items event) (lint.UnreadEvents system event)) (Tested (is_unused_writes t.blocks.items t.writes.items event) (lint.UnusedWrites system event))
+IsOfEvent t system event = Either (Tested (is_unread_events t.blocks.items t.reads.items event) (lint.UnreadEvents system event)) (Either (Tested (is_unused_writes t.blocks.items t.writes.items event) (lint.UnusedWrites system event)) (Tested (is_event_twice t.reads.items event) (lint.RepeatedEvents system event)))
 
 unfoldable pub IsOfEvents : SystemTable → ℕ → ℕ → Lint → Type 0
 IsOfEvents t system n = IsOfEvent t system (event_at n)
@@ -174,13 +179,27 @@ IsOfBlock code system block = Either (Tested (length code == 0) (lint.EmptyCode 
 unfoldable pub IsOfBlocks : List Block → ℕ → ℕ → Lint → Type 0
 IsOfBlocks blocks system n found = HoldsAt (λ (block : Block). IsOfBlock block.code.items system n found) blocks n
 
+-- ---- registers of a system
+
+-- a register is read and never written, or written and never read
+abbrev pub is_unset_register : List Block → ℕ → Bool
+is_unset_register blocks register = done_by (deed.Reads (Register register)) blocks && not (done_by (deed.Writes (Register register)) blocks)
+
+abbrev pub is_unread_register : List Block → ℕ → Bool
+is_unread_register blocks register = done_by (deed.Writes (Register register)) blocks && not (done_by (deed.Reads (Register register)) blocks)
+
+unfoldable pub IsOfRegister : List Block → ℕ → ℕ → Lint → Type 0
+IsOfRegister blocks system register = Either (Tested (is_unset_register blocks register) (lint.UnsetRegister system register)) (Tested (is_unread_register blocks register) (lint.UnreadRegister system register))
+
 -- ---- a system
 
 unfoldable pub IsOfSystem : List Bool → SystemTable → ℕ → Lint → Type 0
 IsOfSystem present t system = Either (Among (length t.queries.items) (IsOfQueries t.blocks.items present system t.queries.items))
     (Either (Among 8 (IsOfResources t system))
     (Either (Among 4 (IsOfEvents t system))
-    (Either (IsOfCommands t.blocks.items t.spawns system) (Among (length t.blocks.items) (IsOfBlocks t.blocks.items system)))))
+    (Either (IsOfCommands t.blocks.items t.spawns system)
+    (Either (Among (length t.blocks.items) (IsOfBlocks t.blocks.items system))
+    (Either (Among 8 (IsOfRegister t.blocks.items system)) (IsOfItem t.item (System system)))))))
 
 -- ---- a file
 
@@ -256,6 +275,9 @@ IsOfStart s values n = Tested (is_never_written s (is_zero values n) (res_at n))
 unfoldable pub IsOfSet : List (Vec ℕ Global) → ℕ → Lint → Type 0
 IsOfSet members n found = HoldsAt (λ numbers. Tested (length numbers.items == 0) (lint.NoMembers n) found) members n
 
+unfoldable pub IsOfChain : List ChainTable → ℕ → Lint → Type 0
+IsOfChain chains n found = HoldsAt (λ (chain : ChainTable). Tested (nat_lt (length chain.items.items) 2) (lint.LoneChain n) found) chains n
+
 unfoldable pub IsOfRace : List Pair → ℕ → Lint → Type 0
 IsOfRace pairs n found = HoldsAt (λ pair. Tested (not pair.silenced) (lint.Race pair) found) pairs n
 
@@ -266,8 +288,11 @@ IsOfTable present tables n found = HoldsAt (λ t. IsOfSystem present t n found) 
 unfoldable pub IsLint : ProgramFile → Schedule → List (Vec ℕ Global) → List Pair → Lint → Type 0
 IsLint file s members pairs = Either (Among (length file.systems.items) (IsOfTable (present_kinds file.entities.items file.systems.items) file.systems.items))
     (Either (Among (length members) (IsOfSet members))
+    (Either (Among (length file.sets.items) (IsOfSetItem file.sets.items))
+    (Either (Among (length file.chains.items) (IsOfChain file.chains.items))
+    (Either (Among (length s.conditions) (IsOfCondition s file.resources (present_kinds file.entities.items file.systems.items)))
     (Either (Among 4 (IsOfEventKinds s))
-    (Either (Among 8 (IsOfStart s file.resources)) (Among (length pairs) (IsOfRace pairs)))))
+    (Either (Among 8 (IsOfStart s file.resources)) (Among (length pairs) (IsOfRace pairs))))))))
 
 -- each of these is one, and where they are fewer than fifty each one is among them
 abbrev pub AreLints : ProgramFile → Schedule → List (Vec ℕ Global) → List Pair → List Lint → Type 0

@@ -1,10 +1,10 @@
 // What is found of the whole of a file: kinds, events, resources, sets and races.
 
-ghost use Rattle.std.specs.Prelude.{◌≡◌, ◌<◌, ◌==◌, OnOk, IfOk, length};
+ghost use Rattle.std.specs.Prelude.{◌≡◌, ◌<◌, ◌==◌, nat_lt, OnOk, IfOk, length};
 ghost use Rattle.std.specs.List.{list_any};
 ghost use Rattle.kinds.specs.Kind.{kind_number};
 ghost use Rattle.lints.specs.Collected.{Adds, Among};
-ghost use Rattle.lints.specs.Lints.{has_value_of, IsOfEventKind, IsOfEventKinds, IsOfRace, IsOfSet, IsOfStart, is_asked_for, is_changed, is_given, is_heard, is_inserted, is_named, is_named_by_condition, is_named_by_system, is_never_written, is_present, is_read_by_system, is_unread, is_unwritten, is_value_of, is_written, is_zero, present_kinds};
+ghost use Rattle.lints.specs.Lints.{has_value_of, IsOfChain, IsOfEventKind, IsOfEventKinds, IsOfRace, IsOfSet, IsOfStart, is_asked_for, is_changed, is_given, is_heard, is_inserted, is_named, is_named_by_condition, is_named_by_system, is_never_written, is_present, is_read_by_system, is_unread, is_unwritten, is_value_of, is_written, is_zero, present_kinds};
 
 use crate::adding::add_where;
 use crate::deeds::{Deed, done_by};
@@ -12,7 +12,7 @@ use crate::lint::Lint;
 use crate::system::{event_at, res_at};
 use ambiguity_report::Pair;
 use kinds::{Event, Kind, Res, Value};
-use program_file::SystemTable;
+use program_file::{ChainTable, SystemTable};
 use schedule_builder::Built;
 use std::alloc::{AllocError, Global};
 
@@ -68,7 +68,7 @@ pub(crate) fn present_kinds(
 }
 
 // Whether a system writes events of a kind.
-fn is_written(built: &Built, event: Event) -> bool
+pub(crate) fn is_written(built: &Built, event: Event) -> bool
     ensures { result ≡ is_written built.now event }
 {
     built
@@ -105,7 +105,7 @@ fn is_heard(built: &Built, event: Event) -> bool
 }
 
 // Whether a system writes a resource.
-fn is_changed(built: &Built, res: Res) -> bool
+pub(crate) fn is_changed(built: &Built, res: Res) -> bool
     ensures { result ≡ is_changed built.now res }
 {
     built
@@ -263,6 +263,41 @@ pub(crate) fn add_of_sets(found: &mut Vec<Lint>, members: &[Vec<u32>]) -> Result
 {
     for number in 0..members.len() {
         add_of_set(found, members, number)?;
+    }
+    Ok(())
+}
+
+// Whether there are fewer than two.
+fn is_lone(items: &[&str]) -> bool
+    ensures { result ≡ nat_lt (length items.now) 2 }
+{
+    items.len() < 2
+}
+
+// Adds what is found of a chain.
+fn add_of_chain(
+    found: &mut Vec<Lint>,
+    chains: &[ChainTable<'_>],
+    number: usize,
+) -> Result<(), AllocError>
+    requires { number < length chains.now }
+    ensures { OnOk result (Adds (IsOfChain chains.now number) found.old.items found.new.items) }
+{
+    let is = is_lone(chains[number].items.as_slice());
+    add_where(found, is, Lint::LoneChain(number))?;
+    Ok(())
+}
+
+// Adds what is found of the chains.
+pub(crate) fn add_of_chains(
+    found: &mut Vec<Lint>,
+    chains: &[ChainTable<'_>],
+) -> Result<(), AllocError>
+    ensures { OnOk result (Adds (Among (length chains.now) (IsOfChain chains.now))
+        found.old.items found.new.items) }
+{
+    for number in 0..chains.len() {
+        add_of_chain(found, chains, number)?;
     }
     Ok(())
 }

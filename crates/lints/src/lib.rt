@@ -3,11 +3,13 @@
 
 mod adding;
 mod blocks;
+mod constants;
 mod deeds;
 mod file;
 pub mod lint;
 pub mod linting;
 mod queries;
+mod repeats;
 mod skips;
 mod system;
 

@@ -3,6 +3,32 @@
 use ambiguity_report::Pair;
 use kinds::{Event, Kind, Res};
 
+/// A set or a system, by its number.
+#[derive(Clone, Copy)]
+pub enum Holder {
+    /// A set.
+    Set(usize),
+    /// A system.
+    System(usize),
+}
+
+/// A list of names of a set or a system.
+#[derive(Clone, Copy)]
+pub enum Listed {
+    /// `in`.
+    In,
+    /// `before`.
+    Before,
+    /// `after`.
+    After,
+    /// `before_ignore_deferred`.
+    BeforeIgnoreDeferred,
+    /// `after_ignore_deferred`.
+    AfterIgnoreDeferred,
+    /// `ambiguous_with`.
+    AmbiguousWith,
+}
+
 /// What of a program file is likely a mistake. Systems, queries, blocks, instructions and sets are numbered from 0, in the order of the file.
 #[derive(Clone, Copy)]
 pub enum Lint {
@@ -58,6 +84,31 @@ pub enum Lint {
         system: usize,
         slot: u32,
     },
+    /// A system reads a register that it never writes.
+    UnsetRegister {
+        system: usize,
+        register: u32,
+    },
+    /// A system writes a register that it never reads.
+    UnreadRegister {
+        system: usize,
+        register: u32,
+    },
+    /// A name stands twice in a list of a set or a system.
+    SaidTwice {
+        holder: Holder,
+        list: Listed,
+    },
+    /// A resource stands twice among those that a system reads (`res`).
+    RepeatedRes {
+        system: usize,
+        res: Res,
+    },
+    /// An event kind stands twice among those that a system reads.
+    RepeatedEvents {
+        system: usize,
+        event: Event,
+    },
     /// A block has no instruction.
     EmptyCode {
         system: usize,
@@ -78,6 +129,13 @@ pub enum Lint {
     },
     /// A set has no system in it.
     NoMembers(usize),
+    /// A chain has fewer than two items.
+    LoneChain(usize),
+    /// A condition always answers alike: whether it answers yes.
+    ConstantCondition {
+        condition: u32,
+        says: bool,
+    },
     /// An event kind is written, and nothing reads it or asks for it.
     UnreadEvent(Event),
     /// An event kind is read or asked for, and nothing writes it.

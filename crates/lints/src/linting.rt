@@ -5,8 +5,12 @@ ghost use Rattle.kinds.specs.Kind.{kind_count};
 ghost use Rattle.lints.specs.Collected.{Adds, Among};
 ghost use Rattle.lints.specs.Lints.{AreLints, IsOfTable};
 
-use crate::file::{add_of_event_kinds, add_of_races, add_of_sets, add_of_starts, present_kinds};
+use crate::constants::{Known, add_of_conditions};
+use crate::file::{
+    add_of_chains, add_of_event_kinds, add_of_races, add_of_sets, add_of_starts, present_kinds,
+};
 use crate::lint::Lint;
+use crate::repeats::add_of_set_items;
 use crate::system::add_of_system;
 use ambiguity_report::Pair;
 use program_file::{ProgramFile, SystemTable};
@@ -14,7 +18,7 @@ use schedule_builder::Built;
 use std::alloc::{AllocError, Global};
 
 /// What of a program file is likely a mistake: the file, the schedule that it declares, the members of its sets, and the pairs of its report. No more than fifty are found:
-/// those of systems first, then those of sets, events, resources and races.
+/// those of systems first, then those of sets, chains, conditions, events, resources and races.
 pub fn lints_of(
     alloc: Global,
     file: &ProgramFile<'_>,
@@ -30,6 +34,14 @@ pub fn lints_of(
     let present = present_kinds(alloc, file.entities.as_slice(), systems)?;
     add_of_systems(&mut found, systems, present.as_slice())?;
     add_of_sets(&mut found, members)?;
+    add_of_set_items(&mut found, file.sets.as_slice())?;
+    add_of_chains(&mut found, file.chains.as_slice())?;
+    let known = Known {
+        built,
+        values: &file.resources,
+        present: present.as_slice(),
+    };
+    add_of_conditions(&mut found, &known)?;
     add_of_event_kinds(&mut found, built)?;
     add_of_starts(&mut found, built, &file.resources)?;
     add_of_races(&mut found, pairs)?;

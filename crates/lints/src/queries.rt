@@ -7,7 +7,8 @@ ghost use Rattle.model.specs.Lists.{is_number};
 ghost use Rattle.model.specs.access.QueryFaults.{required};
 ghost use Rattle.query.specs.Term.{term_of};
 ghost use Rattle.lints.specs.Collected.{Adds, Among};
-ghost use Rattle.lints.specs.Lints.{IsOfKind, IsOfKinds, IsOfQueries, IsOfQuery, is_entity, is_no_match, is_reading, is_unread_entity, is_unread_term, is_unused_mut, kind_at, reads, requires_kind, shows_entity, works};
+ghost use Rattle.lints.specs.Kinds.{requires_kind};
+ghost use Rattle.lints.specs.Lints.{IsOfKind, IsOfKinds, IsOfQueries, IsOfQuery, is_entity, is_no_match, is_reading, is_unread_entity, is_unread_term, is_unused_mut, kind_at, reads, shows_entity, works};
 
 use crate::adding::add_where;
 use crate::deeds::{Deed, Thing, done_at, done_by};
@@ -52,7 +53,7 @@ fn any_requiring(kind: Kind, terms: &[Term]) -> bool
 
 // Whether a query requires a kind.
 #[tactic(auto, using(query::proofs::Terms::of_kinds))]
-fn requires_kind(query: &Query, kind: Kind) -> bool
+pub(crate) fn requires_kind(query: &Query, kind: Kind) -> bool
     ensures { result ≡ requires_kind query.now (kind_number kind) }
 {
     any_requiring(kind, query.terms())

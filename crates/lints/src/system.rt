@@ -3,17 +3,21 @@
 ghost use Rattle.std.specs.Prelude.{◌≡◌, ◌<◌, OnOk, length};
 ghost use Rattle.kinds.specs.Kind.{kind_count};
 ghost use Rattle.lints.specs.Collected.{Adds, Among};
-ghost use Rattle.lints.specs.Lints.{IsOfCommands, IsOfEvent, IsOfEvents, IsOfRes, IsOfResources, IsOfSystem, event_at, has_event, has_res, is_unread_events, is_unread_res, is_unused_res_mut, is_unused_slot, is_unused_writes, is_without_command, last_slot, res_at};
+ghost use Rattle.lints.specs.Lints.{IsOfCommands, IsOfEvent, IsOfEvents, IsOfRegister, IsOfRes, IsOfResources, IsOfSystem, event_at, has_event, has_res, is_event_twice, is_res_twice, is_unread_events, is_unread_register, is_unread_res, is_unset_register, is_unused_res_mut, is_unused_slot, is_unused_writes, is_without_command, last_slot, res_at};
 
 use crate::adding::add_where;
 use crate::blocks::add_of_blocks;
 use crate::deeds::{Deed, Thing, done_by, hears};
-use crate::lint::Lint;
+use crate::lint::{Holder, Lint};
 use crate::queries::{add_of_queries, works};
+use crate::repeats::add_of_item;
 use kinds::{Event, Res};
 use program_file::SystemTable;
 use script::Block;
 use std::alloc::AllocError;
+
+// How many registers a system has.
+const REGISTERS: u32 = 8;
 
 // Whether a resource is among some.
 fn has_res(list: &[Res], res: Res) -> bool
@@ -27,6 +31,26 @@ fn has_event(list: &[Event], event: Event) -> bool
     ensures { result ≡ has_event list.now event }
 {
     list.iter().any(|own| own.number() == event.number())
+}
+
+// Whether a resource stands twice among some.
+fn is_res_twice(list: &[Res], res: Res) -> bool
+    ensures { result ≡ is_res_twice list.now res }
+{
+    1 < list
+        .iter()
+        .filter(|own| own.number() == res.number())
+        .count()
+}
+
+// Whether an event kind stands twice among some.
+fn is_event_twice(list: &[Event], event: Event) -> bool
+    ensures { result ≡ is_event_twice list.now event }
+{
+    1 < list
+        .iter()
+        .filter(|own| own.number() == event.number())
+        .count()
 }
 
 // Whether a resource is read, and never used.
@@ -73,6 +97,8 @@ fn add_of_res(
     let is_unused = is_unused_res_mut(blocks, table.res_mut.as_slice(), res);
     add_where(found, is_unread, Lint::UnreadRes { system, res })?;
     add_where(found, is_unused, Lint::UnusedResMut { system, res })?;
+    let is_twice = is_res_twice(table.res.as_slice(), res);
+    add_where(found, is_twice, Lint::RepeatedRes { system, res })?;
     Ok(())
 }
 
@@ -124,6 +150,8 @@ fn add_of_event(
     let is_unused = is_unused_writes(blocks, table.writes.as_slice(), event);
     add_where(found, is_unread, Lint::UnreadEvents { system, event })?;
     add_where(found, is_unused, Lint::UnusedWrites { system, event })?;
+    let is_twice = is_event_twice(table.reads.as_slice(), event);
+    add_where(found, is_twice, Lint::RepeatedEvents { system, event })?;
     Ok(())
 }
 
@@ -212,6 +240,54 @@ fn add_of_commands(
     Ok(())
 }
 
+// Whether a register is read, and never written.
+fn is_unset_register(blocks: &[Block], register: u32) -> bool
+    ensures { result ≡ is_unset_register blocks.now register }
+{
+    let thing = Thing::Register(register);
+    done_by(Deed::Reads(thing), blocks) && !done_by(Deed::Writes(thing), blocks)
+}
+
+// Whether a register is written, and never read.
+fn is_unread_register(blocks: &[Block], register: u32) -> bool
+    ensures { result ≡ is_unread_register blocks.now register }
+{
+    let thing = Thing::Register(register);
+    done_by(Deed::Writes(thing), blocks) && !done_by(Deed::Reads(thing), blocks)
+}
+
+// Adds what is found of a register.
+fn add_of_register(
+    found: &mut Vec<Lint>,
+    blocks: &[Block],
+    system: usize,
+    register: u32,
+) -> Result<(), AllocError>
+    ensures { OnOk result (Adds (IsOfRegister blocks.now system register) found.old.items
+        found.new.items) }
+{
+    let is_unset = is_unset_register(blocks, register);
+    let is_unread = is_unread_register(blocks, register);
+    add_where(found, is_unset, Lint::UnsetRegister { system, register })?;
+    add_where(found, is_unread, Lint::UnreadRegister { system, register })?;
+    Ok(())
+}
+
+// Adds what is found of the registers of a system.
+fn add_of_registers(
+    found: &mut Vec<Lint>,
+    blocks: &[Block],
+    system: usize,
+) -> Result<(), AllocError>
+    ensures { OnOk result (Adds (Among 8 (IsOfRegister blocks.now system)) found.old.items
+        found.new.items) }
+{
+    for register in 0..REGISTERS {
+        add_of_register(found, blocks, system, register)?;
+    }
+    Ok(())
+}
+
 // Adds what is found of a system, of which each kind that is on some entity is known.
 pub(crate) fn add_of_system(
     found: &mut Vec<Lint>,
@@ -229,5 +305,7 @@ pub(crate) fn add_of_system(
     add_of_events(found, table, system)?;
     add_of_commands(found, blocks, table.spawns, system)?;
     add_of_blocks(found, blocks, system)?;
+    add_of_registers(found, blocks, system)?;
+    add_of_item(found, &table.item, Holder::System(system))?;
     Ok(())
 }

@@ -1,8 +1,8 @@
 // Excerpts of a text: the lines with marks, and below each what is marked.
 
 use crate::lines::Line;
-use crate::marks::Mark;
-use crate::shown::{char_count, shown};
+use crate::marks::{Mark, Span};
+use crate::shown::shown;
 use std::alloc::{AllocError, Global};
 use unicode_width::UnicodeWidthStr;
 
@@ -16,10 +16,23 @@ const SHOWN_BEFORE: usize = 40;
 pub struct Labelled<'a> {
     /// The mark.
     pub mark: Mark<'a>,
+    /// What is marked, also where that is several lines.
+    pub span: Span,
     /// Whether the excerpt is of this mark: it has `^` below it, and others have `-`.
     pub is_first: bool,
     /// The text behind it, empty for none.
     pub label: String,
+}
+
+/// Where an excerpt is of: the path, the sign before it, and the columns for the numbers of lines.
+#[derive(Clone, Copy, Debug)]
+pub struct Place<'a> {
+    /// The path of the text.
+    pub path: &'a str,
+    /// The sign before the path.
+    pub sign: &'static str,
+    /// How many columns the numbers of lines have.
+    pub gutter: usize,
 }
 
 /// An excerpt of a text: some marks, of which one is the first.
@@ -41,11 +54,17 @@ impl<'a> Excerpt<'a> {
         self.marks.is_empty()
     }
 
-    /// Adds a mark, with what is said of it. The first that is added is the one that the excerpt is of.
-    pub fn add(&mut self, mark: Mark<'a>, label: String) -> Result<(), AllocError> {
+    /// The marks, as they were added.
+    pub fn marks(&self) -> &[Labelled<'a>] {
+        self.marks.as_slice()
+    }
+
+    /// Adds the mark of a span, with what is said of it. The first that is added is the one that the excerpt is of.
+    pub fn add(&mut self, mark: Mark<'a>, span: Span, label: String) -> Result<(), AllocError> {
         let is_first = self.marks.is_empty();
         self.marks.push(Labelled {
             mark,
+            span,
             is_first,
             label,
         })?;
@@ -63,9 +82,14 @@ impl<'a> Excerpt<'a> {
 
     /// Adds the place of the first mark, as `PATH:LINE:COLUMN`, and below it each line with marks, in order, and what is marked of it. A long line comes again
     /// for a mark that isn't where it was shown.
-    pub fn push(&mut self, alloc: Global, text: &mut String, path: &str) -> Result<(), AllocError> {
-        let gutter = self.gutter();
-        push_place(alloc, text, path, gutter, self.marks.as_slice())?;
+    pub fn push(
+        &mut self,
+        alloc: Global,
+        text: &mut String,
+        place: Place<'_>,
+    ) -> Result<(), AllocError> {
+        let gutter = place.gutter;
+        push_place(alloc, text, place, self.marks.as_slice())?;
         if self.marks.is_empty() {
             return Ok(());
         }
@@ -102,7 +126,7 @@ fn is_outside(alloc: Global, window: Window, mark: Mark<'_>) -> Result<bool, All
     if !window.is_cut {
         return Ok(false);
     }
-    let lead = shown(alloc, before(mark))?.as_str().chars().count();
+    let lead = shown(alloc, mark.before())?.as_str().chars().count();
     Ok(lead >= window.skipped.saturating_add(MOST_SHOWN))
 }
 
@@ -110,36 +134,21 @@ fn is_outside(alloc: Global, window: Window, mark: Mark<'_>) -> Result<bool, All
 fn push_place(
     alloc: Global,
     text: &mut String,
-    path: &str,
-    gutter: usize,
+    place: Place<'_>,
     marks: &[Labelled<'_>],
 ) -> Result<(), AllocError> {
-    push_times(text, ' ', gutter)?;
-    let path = shown(alloc, path.as_bytes())?;
-    write!(text, "--> {path}")?;
+    push_times(text, ' ', place.gutter)?;
+    let path = shown(alloc, place.path.as_bytes())?;
+    let sign = place.sign;
+    write!(text, "{sign} {path}")?;
     match marks.iter().find(|labelled| labelled.is_first) {
         Some(labelled) => {
             let number = labelled.mark.line.number;
-            let column = column_of(labelled.mark);
+            let column = labelled.mark.column();
             writeln!(text, ":{number}:{column}")
         }
         None => text.push_str("\n"),
     }
-}
-
-// The column of a mark, from 1, in characters.
-fn column_of(mark: Mark<'_>) -> usize {
-    char_count(before(mark)).saturating_add(1)
-}
-
-// The bytes of a line before a mark.
-fn before(mark: Mark<'_>) -> &[u8] {
-    mark.line.bytes.get(..mark.from).unwrap_or(&[])
-}
-
-// The bytes of a line that are marked.
-fn marked(mark: Mark<'_>) -> &[u8] {
-    mark.line.bytes.get(mark.from..mark.to).unwrap_or(&[])
 }
 
 // Adds a line, with its number, as much as is shown around a mark.
@@ -151,7 +160,7 @@ fn push_line(
 ) -> Result<Window, AllocError> {
     let Line { number, bytes, .. } = mark.line;
     let line = shown(alloc, bytes)?;
-    let lead = shown(alloc, before(mark))?.as_str().chars().count();
+    let lead = shown(alloc, mark.before())?.as_str().chars().count();
     let count = line.as_str().chars().count();
     let window = Window {
         skipped: if count > MOST_SHOWN {
@@ -200,8 +209,8 @@ fn push_below(
     window: Window,
     labelled: &Labelled<'_>,
 ) -> Result<(), AllocError> {
-    let lead = shown(alloc, before(labelled.mark))?;
-    let word = shown(alloc, marked(labelled.mark))?;
+    let lead = shown(alloc, labelled.mark.before())?;
+    let word = shown(alloc, labelled.mark.bytes())?;
     let dots = if window.skipped > 0 { 3 } else { 0 };
     push_times(text, ' ', gutter.saturating_add(1))?;
     text.push_str("| ")?;

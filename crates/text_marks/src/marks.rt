@@ -4,6 +4,7 @@ ghost use Rattle.std.specs.Prelude.{◌≡◌, ◌↔◌, IfSome, IsTrue};
 ghost use Rattle.text_marks.specs.Lines.{IsMark, Spells};
 
 use crate::lines::{Line, line_at};
+use crate::shown::char_count;
 
 /// A span of a text: its bytes from `start` to before `end`.
 #[derive(Clone, Copy, PartialEq, Eq, Debug)]
@@ -23,6 +24,23 @@ pub struct Mark<'a> {
     pub from: usize,
     /// How many come before the mark's end.
     pub to: usize,
+}
+
+impl<'a> Mark<'a> {
+    /// The bytes of its line before it.
+    pub fn before(self) -> &'a [u8] {
+        self.line.bytes.get(..self.from).unwrap_or(&[])
+    }
+
+    /// The bytes that are marked.
+    pub fn bytes(self) -> &'a [u8] {
+        self.line.bytes.get(self.from..self.to).unwrap_or(&[])
+    }
+
+    /// Its column, from 1, in characters.
+    pub fn column(self) -> usize {
+        char_count(self.before()).saturating_add(1)
+    }
 }
 
 /// The mark of a span of a text: of several lines the first has it. None where the span doesn't lie in the text.

@@ -2,5 +2,7 @@
 #![tactic(auto)]
 
 mod places;
+mod registers;
+mod repeats;
 pub mod telling;
 mod words;

@@ -1,5 +1,7 @@
 // Which words of a program file are marked for what is found.
 
+use crate::registers::register_of;
+use crate::repeats::twice_of;
 use access_set::Datum;
 use ambiguity_report::Pair;
 use ambiguity_report::report::Racer;
@@ -123,7 +125,31 @@ fn marks_of_file<'a>(document: &'a Table, lint: Lint) -> Marks<'a> {
         Lint::UnwrittenEvent(event) => one(read_or_asked(document, "reads", event.name())),
         Lint::UnwrittenRes(res) => one(read_or_asked(document, "res", res.name())),
         Lint::Race(pair) => marks_of_race(document, pair),
-        _ => one(None),
+        other => marks_of_names(document, other),
+    }
+}
+
+// The same of registers, lists of names and chains.
+fn marks_of_names<'a>(document: &'a Table, lint: Lint) -> Marks<'a> {
+    match lint {
+        Lint::UnsetRegister { system, register } | Lint::UnreadRegister { system, register } => {
+            one(register_of(document, system, register))
+        }
+        Lint::ConstantCondition { condition, .. } => match asked(document, condition) {
+            Some((target, _)) => one(Some(target)),
+            None => one(None),
+        },
+        Lint::LoneChain(number) => {
+            let owner = Owner::of(document, Place::Chain(number));
+            one(Some(Target::value(owner, "items", None)))
+        }
+        other => {
+            let twice = twice_of(document, other);
+            Marks {
+                first: marked(twice.again, Label::None),
+                second: marked(twice.first, Label::Words("first here")),
+            }
+        }
     }
 }
 

@@ -1,16 +1,23 @@
 // What is told of what is found, in words.
 
+ghost use Rattle.std.specs.Prelude.{◌≡◌};
+ghost use Rattle.warnings.specs.Lines.{lint_code};
+
 use crate::places::skip_in;
+use crate::repeats::{Twice, twice_of};
 use ambiguity_report::Pair;
 use ambiguity_report::report::Racer;
 use explaining::owner::Owner;
+use kinds::Kind;
 use lints::Lint;
 use program_file::Place;
 use std::alloc::{AllocError, Global};
 use toml::Table;
 
 /// The word of a lint.
-pub(crate) fn code_of(lint: Lint) -> &'static str {
+pub(crate) fn code_of(lint: Lint) -> &'static str
+    ensures { result.now ≡ lint_code lint }
+{
     match lint {
         Lint::UnusedMut { .. } | Lint::UnusedResMut { .. } | Lint::UnusedWrites { .. } => {
             "unused_write"
@@ -21,10 +28,17 @@ pub(crate) fn code_of(lint: Lint) -> &'static str {
         | Lint::UnreadEvents { .. } => "unread_term",
         Lint::NoMatch { .. } => "no_match",
         Lint::NoCommand { .. } | Lint::UnusedSlot { .. } => "unused_spawns",
+        Lint::UnsetRegister { .. } => "unset_register",
+        Lint::UnreadRegister { .. } => "unread_register",
+        Lint::SaidTwice { .. } | Lint::RepeatedRes { .. } | Lint::RepeatedEvents { .. } => {
+            "said_twice"
+        }
         Lint::EmptyCode { .. } => "empty_code",
         Lint::CrossingSkip { .. } => "crossing_skip",
         Lint::Unreachable { .. } => "unreachable",
         Lint::NoMembers(_) => "no_members",
+        Lint::LoneChain(_) => "lone_chain",
+        Lint::ConstantCondition { .. } => "constant_condition",
         Lint::UnreadEvent(_) => "unread_event",
         Lint::UnwrittenEvent(_) => "unwritten_event",
         Lint::UnwrittenRes(_) => "unwritten_resource",
@@ -127,7 +141,37 @@ fn headline_of_other(alloc: Global, document: &Table, lint: Lint) -> Result<Stri
             format!(in alloc; "`{name}` is 0 at the start, and nothing writes it")
         }
         Lint::Race(pair) => headline_of_race(alloc, document, pair),
-        _ => Ok(String::new(alloc)),
+        other => headline_of_names(alloc, document, other),
+    }
+}
+
+// The same of registers, lists of names and chains.
+fn headline_of_names(alloc: Global, document: &Table, lint: Lint) -> Result<String, AllocError> {
+    match lint {
+        Lint::UnsetRegister { system, register } => {
+            let name = system_name(document, system);
+            format!(in alloc; "`{name}` reads `r{register}`, and never sets it")
+        }
+        Lint::UnreadRegister { system, register } => {
+            let name = system_name(document, system);
+            format!(in alloc; "`{name}` sets `r{register}`, and never reads it")
+        }
+        Lint::LoneChain(_) => String::from_str(alloc, "this chain orders nothing"),
+        Lint::ConstantCondition { condition, says } => {
+            let often = if says { "always" } else { "never" };
+            format!(in alloc;
+                "condition {condition} {often} says yes: nothing writes what it asks for"
+            )
+        }
+        other => {
+            let Twice {
+                owner,
+                key,
+                word,
+                ..
+            } = twice_of(document, other);
+            format!(in alloc; "`{word}` stands twice in `{key}` of {owner}")
+        }
     }
 }
 
@@ -143,6 +187,15 @@ fn headline_of_race(alloc: Global, document: &Table, pair: Pair) -> Result<Strin
         Racer::Condition(number) => {
             format!(in alloc; "condition {number} and `{second}` race on `{datum}`")
         }
+    }
+}
+
+/// The word of a term, and the one to write in its place before its kind, where that is what to do.
+pub(crate) fn terms_of(lint: Lint) -> Option<(&'static str, &'static str, Kind)> {
+    match lint {
+        Lint::UnusedMut { kind, .. } => Some(("mut", "read", kind)),
+        Lint::UnreadTerm { kind, .. } => Some(("read", "with", kind)),
+        _ => None,
     }
 }
 
@@ -196,6 +249,14 @@ fn help_words(lint: Lint) -> &'static str {
         Lint::UnusedSlot { .. } => "name it in a command, or grant fewer",
         Lint::EmptyCode { .. } => "write an instruction, or take the block away",
         Lint::Unreachable { .. } => "take it away, or the instruction before it",
+        Lint::UnsetRegister { .. } => "it is always 0: set it somewhere, or write 0",
+        Lint::UnreadRegister { .. } => "read it somewhere, or take it away",
+        Lint::SaidTwice { .. } | Lint::RepeatedRes { .. } | Lint::RepeatedEvents { .. } => {
+            "once is enough: take one away"
+        }
+        Lint::LoneChain(_) => "a chain has two items or more, each before the next",
+        Lint::ConstantCondition { says: true, .. } => "take it away: it holds nothing back",
+        Lint::ConstantCondition { .. } => "what it is of never runs: write what it asks for",
         Lint::UnreadEvent(_) => "name it at `reads` of a system, or take it away",
         Lint::UnwrittenEvent(_) => "name it at `writes` of a system that emits it",
         Lint::UnwrittenRes(_) => "give it a value in `resources`, or write it: `res_mut`",

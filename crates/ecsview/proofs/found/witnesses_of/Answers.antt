@@ -9,7 +9,7 @@ loop-pair-init c = record {
   meant = refl;
   rest = λ whole h.
       let text : string_bytes c.writeln.new.self ≡ races_line (length c.args.pairs.now) = c.in_ok-writeln.ensures.bytes ∙ ap (λ (xs : List ℕ). xs ++ races_line (length c.args.pairs.now)) c.new-text.ensures.bytes in
-      subst (λ (words : List ℕ). AreRaces c.args.built.now (meanings_of_scripts c.args.built.now c.args.bodies.now) c.args.first.now (map (λ name. name.now) c.args.names.now) c.args.pairs.now words whole) text h;
+      subst (λ (words : List ℕ). AreRaces c.args.built.now (meanings_of_scripts c.args.built.now c.args.bodies.now) c.args.start.now.state c.args.start.now.number (map (λ name. name.now) c.args.names.now) c.args.pairs.now words whole) text h;
 }
 
 -- one pair more
@@ -23,6 +23,6 @@ loop-pair-preserved c =
     record {
       meant = c.witness_of.ensures.meanings ∙ inv.meant;
       rest = λ whole h. inv.rest whole
-          (races_next s ms _ c.args.first.now names c.args.pairs.now c.loop-pair.pair-index _ _ c.in_ok-found.found more.0 (string_bytes c.loop-pair.text) _ _ whole c.loop-pair-test.true refl inv.meant
+          (races_next s ms _ c.args.start.now.state c.args.start.now.number names c.args.pairs.now c.loop-pair.pair-index _ _ c.in_ok-found.found more.0 (string_bytes c.loop-pair.text) _ _ whole c.loop-pair-test.true refl inv.meant
           c.in_ok-found.ensures.witness more.1 c.in_ok-push_pair.ensures more.2 h);
     }

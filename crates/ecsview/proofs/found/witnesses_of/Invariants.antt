@@ -7,6 +7,6 @@ use Rattle.ecsview.proofs.found.witnesses_of.Given as goal
 abbrev pub invariant-loop-pair : goal.invariant-loop-pair
 invariant-loop-pair l = record {
   meant : meanings_of_scripts l.built l.bodies ≡ meanings_of_scripts l.built l.fn.bodies;
-  rest : (whole : List ℕ) → AreRaces l.built (meanings_of_scripts l.built l.fn.bodies) l.first (map (λ name. name.now) l.names) (drop l.pair-index l.pairs) (string_bytes l.text) whole
-      → AreRaces l.built (meanings_of_scripts l.built l.fn.bodies) l.first (map (λ name. name.now) l.names) l.pairs (races_line (length l.pairs)) whole;
+  rest : (whole : List ℕ) → AreRaces l.built (meanings_of_scripts l.built l.fn.bodies) l.start.state l.start.number (map (λ name. name.now) l.names) (drop l.pair-index l.pairs) (string_bytes l.text) whole
+      → AreRaces l.built (meanings_of_scripts l.built l.fn.bodies) l.start.state l.start.number (map (λ name. name.now) l.names) l.pairs (races_line (length l.pairs)) whole;
 }

@@ -24,7 +24,7 @@ returns-in-Err-document_of-clause-answered g c =
     let short = subst IsShortFile (sym c.as_slice.ensures.value) within in
     let unread = document-unread file c.as_slice.result.now c.in-Err-document_of.fault short whole told.only (λ e. told.refused (ap Err e)) in
     explained_is _ _ c.args.args.now.work file (g.F.Read.remaining c.args.trace.now) (g.F.Read.remaining c.args.other.now) c.from.result c.explained-in-Err-document_of.result
-    (inl (subst (IsUnread file) (sym c.from.ensures) unread)) c.explained-in-Err-document_of.ensures.asked c.explained-in-Err-document_of.ensures.told
+    (inl (subst (IsUnread file) (sym c.from.ensures) unread)) c.explained-in-Err-document_of.ensures.told
 
 pub returns-in-Err-document_of-clause-refused : goal.returns-in-Err-document_of-clause-refused
 returns-in-Err-document_of-clause-refused g c =
@@ -46,7 +46,7 @@ returns-clause-answered g c =
     let short = known-read IsShortFile file c.in-Ok.bytes.items within c.in-Ok.ensures.whole in
     let read = known-read (λ text. parse_document text ≡ Some (table_view c.in-Ok-document_of.document)) file c.as_slice.result.now c.in-Ok-document_of.ensures.ok.1 whole in
     explained_is _ _ c.args.args.now.work file (g.F.Read.remaining c.args.trace.now) (g.F.Read.remaining c.args.other.now) c.in-Err-load.fault c.explained-in-Err-load.result
-    (c.in-Err-load.ensures.refused file short read) c.explained-in-Err-load.ensures.asked c.explained-in-Err-load.ensures.told
+    (c.in-Err-load.ensures.refused file short read) c.explained-in-Err-load.ensures.told
 
 pub returns-clause-refused : goal.returns-clause-refused
 returns-clause-refused g c =

@@ -6,4 +6,4 @@ use Rattle.findings.proofs.texts.push_witness.Goals as goal
 pub returns : goal.returns
 returns c =
     let names : List (List ℕ) = map (λ name. name.now) c.args.names.now in
-    told_witness names c.args.pair c.args.witness.now _ _ _ _ _ c.as_str.ensures.value c.as_str-2.ensures.value c.in_ok-push_orders.ensures c.in_ok-push_difference.ensures
+    told_witness names c.args.number c.args.pair c.args.witness.now _ _ _ _ _ c.as_str.ensures.value c.as_str-2.ensures.value c.in_ok-push_orders.ensures c.in_ok-push_difference.ensures

@@ -1,0 +1,14 @@
+use Rattle.std.proofs.Common.{◌∙◌, ap, sym, option_map}
+use Rattle.clap.proofs.WalkLemmas.{first_value-rows}
+use Rattle.clap.specs.Words.{found_of}
+use Rattle.std.specs.Prelude.{codes}
+use Rattle.ecsview.specs.Asking.{denies_asked}
+use Rattle.ecsview.proofs.asking.denies_in.Goals as goal
+
+pub returns-in-Some : goal.returns-in-Some
+returns-in-Some c =
+    c.denies_of.ensures ∙ ap denies_asked (ap (option_map (λ s. s.now)) (sym c.in-Some.is) ∙ c.get_str.ensures ∙ first_value-rows (found_of c.args.found.now) (codes "deny"))
+
+pub returns-in-None : goal.returns-in-None
+returns-in-None c =
+    ap denies_asked (ap (option_map (λ s. s.now)) (sym c.in-None.is) ∙ c.get_str.ensures ∙ first_value-rows (found_of c.args.found.now) (codes "deny"))
