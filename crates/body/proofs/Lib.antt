@@ -31,3 +31,5 @@ pub mod ListedRows
 pub mod Sent
 mod Readers
 pub mod NewEntities
+pub mod KeptPlans
+pub mod HeldPicks

@@ -42,7 +42,7 @@ use Rattle.body.proofs.Aloneness.{row-at-slot}
 -- ---- two lists beside each other
 
 -- what holds at each place holds of each
-each-by-get : {A : Type 0} (P : A → Type 0) (xs : List A) → ((i : ℕ) (x : A) → slice_get xs i ≡ Some x → P x) → AllByRecursion P xs
+pub each-by-get : {A : Type 0} (P : A → Type 0) (xs : List A) → ((i : ℕ) (x : A) → slice_get xs i ≡ Some x → P x) → AllByRecursion P xs
 each-by-get P [] h = tt
 each-by-get P (x ∷ xs) h = (h zero x refl, each-by-get P xs (λ i y e. h (suc i) y e))
 
@@ -57,14 +57,14 @@ same-beside f name other_name (x ∷ xs) (y ∷ ys) e h = ap₂ ◌∷◌ (h zer
 -- ---- rows of the definitions
 
 -- the shown row of a row's entity
-beside : (rows : List Row) (shown : List ShownRow) (r : ℕ) (row : Row) → map (λ (x : Row). x.entity) rows ≡ map (λ (x : ShownRow). x.entity) shown → slice_get rows r ≡ Some row →
+pub beside : (rows : List Row) (shown : List ShownRow) (r : ℕ) (row : Row) → map (λ (x : Row). x.entity) rows ≡ map (λ (x : ShownRow). x.entity) shown → slice_get rows r ≡ Some row →
     (s : ShownRow) × (slice_get shown r ≡ Some s) × (s.entity ≡ row.entity)
 beside rows shown r row same there =
     mapped (λ (x : ShownRow). x.entity) (slice_get shown r) row.entity
     (sym (slice_get-map (λ (x : ShownRow). x.entity) shown r) ∙ ap (λ es. slice_get es r) (sym same) ∙ slice_get-map (λ (x : Row). x.entity) rows r ∙ ap (option_map (λ (x : Row). x.entity)) there)
 
 -- a shown row is that of the slot of its index, which is a row
-row-shown : (query : List Term) (last : ℕ) (slots : List Slot) (r : ℕ) (row : ShownRow) → slice_get (rows_of query last slots) r ≡ Some row →
+pub row-shown : (query : List Term) (last : ℕ) (slots : List Slot) (r : ℕ) (row : ShownRow) → slice_get (rows_of query last slots) r ≡ Some row →
     (row ≡ shown_row query row.entity.index (get_or slots row.entity.index fresh_slot)) × (is_row query last (get_or slots row.entity.index fresh_slot) ≡ true)
 row-shown query last slots r row h =
     let at = row-at-slot query last 0 slots r row h in

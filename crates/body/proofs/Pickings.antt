@@ -164,7 +164,7 @@ one-more : (p : Picked) (ps qs : List Picked) → AllByRecursion (λ q. IsOtherS
 one-more p [] qs h k = tt
 one-more p (x ∷ ps) qs h k = ((h.0, k.0), one-more p ps qs h.1 k.1)
 
-own-than-read : (ps : List Picked) → AreOtherSpots ps → AreOthersThan (picked_own ps) (picked_read ps)
+pub own-than-read : (ps : List Picked) → AreOtherSpots ps → AreOthersThan (picked_own ps) (picked_read ps)
 own-than-read [] h = tt
 own-than-read (p ∷ ps) h = go p.is_written (own-than-read ps h.1)
   where

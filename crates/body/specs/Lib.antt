@@ -22,3 +22,4 @@ pub mod Keeps
 pub mod Out
 pub mod Evaluated
 pub mod Inputs
+pub mod KeptPlans

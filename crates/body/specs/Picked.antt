@@ -1,5 +1,5 @@
 -- The columns that are picked, as they are taken of a world: first the own ones, then the shared ones.
-use Rattle.std.specs.Prelude.{ℕ, ◌≡◌, true, false, cond, List, [], ◌∷◌, map, Some}
+use Rattle.std.specs.Prelude.{ℕ, ◌≡◌, true, false, cond, List, [], ◌∷◌, ◌++◌, map, Some}
 use Rattle.std.specs.List.{AllByRecursion}
 use Rattle.std.specs.Arc.{arc_value}
 use Rattle.kinds.specs.Kind.{kind_number}
@@ -7,6 +7,7 @@ use Rattle.archetype_store.specs.declared.columns.ColumnAt.{ColumnAt}
 use Rattle.archetype_store.specs.declared.columns.TakenColumn.{TakenColumn}
 use Rattle.archetype_store.specs.declared.columns.SharedColumn.{SharedColumn}
 use Rattle.archetype_store.specs.Layout.{Archetype, archetype_at, column_home}
+use Rattle.archetype_store.specs.Lending.{AreTaken, AreShared}
 use Rattle.archetype_store.specs.Slot.{column_cells}
 use Rattle.archetype_store.specs.Store.{StoreValue}
 use Rattle.query_plan.specs.Picks.{Picked}
@@ -65,3 +66,20 @@ AreHeldOf w [] [] = Unit {0}
 AreHeldOf w [] (c ∷ cs) = ⊥
 AreHeldOf w (p ∷ ps) [] = ⊥
 AreHeldOf w (p ∷ ps) (c ∷ cs) = IsHeldOf w p c × AreHeldOf w ps cs
+
+-- the places of picks, as they are asked for: the written ones, and the others
+pub record AreRequestsOf (picks : List Picked) (own read : List ColumnAt) : Type 0 where
+  pub own_are : map spot_seen own ≡ map spot_of (picked_own picks)
+  pub read_are : map spot_seen read ≡ map spot_of (picked_read picks)
+
+-- columns that are held: those taken of a store at these places
+pub record AreOwnOf (w : StoreValue) (spots : List ColumnAt) (columns : List Column) : Type 0 where
+  pub taken : List TakenColumn
+  pub are : AreTaken w.state.slots w.layout spots taken
+  pub held : columns ≡ map (own_column w) taken
+
+-- and those before, with those that it shares at these places
+pub record AreReadOf (w : StoreValue) (spots : List ColumnAt) (before columns : List Column) : Type 0 where
+  pub shared : List SharedColumn
+  pub are : AreShared w.state.slots w.layout spots shared
+  pub held : columns ≡ before ++ map (read_column w) shared

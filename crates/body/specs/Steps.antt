@@ -112,10 +112,12 @@ pub record AreInTime (clock : ℕ) (systems conditions : List Memory) : Type 0 w
   pub systems_in : IsInTime clock systems
   pub conditions_in : IsInTime clock conditions
 
--- what holds of the parts of every state: that of its memories, and no more commands are counted than can be
-pub record ArePartsOf (clock : ℕ) (systems conditions : List Memory) (passed_over : ℕ) : Type 0 where
+-- what holds of the parts of every state: that of its memories, no more commands are counted than can be, and the plans that are kept hold over
+-- these forms of its layout
+pub record ArePartsOf (clock : ℕ) (systems conditions : List Memory) (passed_over : ℕ) (planned forms : List Archetype) : Type 0 where
   pub in_time : AreInTime clock systems conditions
   pub counted : passed_over ≤ most_passed_over
+  pub planned_is : planned ≡ forms
 
 -- what holds of every state of an engine, whatever the schedule
 pub record HasShape (state : State) : Type 0 where

@@ -31,7 +31,8 @@ fn put_held(held: ViewColumn, world: &mut World)
 }
 
 // Brings the columns of a query home. It allocates nothing, and gives back the room of their list.
-fn put_columns(columns: Vec<ViewColumn>, world: &mut World) -> Vec<ViewColumn>
+#[inline(always)]
+pub(crate) fn put_columns(columns: Vec<ViewColumn>, world: &mut World) -> Vec<ViewColumn>
     requires { CanComeHome (lent_of (map held_seen columns.items)) world.old }
     ensures { world.new ≡ all_home (lent_of (map held_seen columns.items)) world.old }
 {

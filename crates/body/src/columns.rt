@@ -1,20 +1,21 @@
 // The columns of a query of a view: taken of a world, or shared by it.
 
-ghost use Rattle.std.specs.Prelude.{◌≡◌, ◌+◌, ◌≤◌, ◌++◌, [], map, IfOk, OnOk, OnErr};
+ghost use Rattle.std.specs.Prelude.{◌≡◌, ◌+◌, ◌≤◌, ◌++◌, [], length, map, IfOk, OnOk, OnErr};
 ghost use Rattle.std.specs.Vec.{vec_len, vec_capacity};
+ghost use Rattle.archetype_store.specs.Lending.{CanTake, CanShare, CanComeHome, all_away, all_home};
 ghost use Rattle.query_plan.specs.Picks.{pick_seen};
 ghost use Rattle.body.specs.HeldColumns.{held_seen};
 ghost use Rattle.body.specs.Lent.{lent_of, with_away};
-ghost use Rattle.body.specs.Picked.{spot_of, spot_seen, picked_own, picked_read, own_column, read_column, AreSpotsHome, AreOtherSpots, AreHeldOf};
+ghost use Rattle.body.specs.Picked.{spot_of, spot_seen, picked_own, picked_read, AreRequestsOf, AreOwnOf, AreReadOf, AreSpotsHome, AreOtherSpots, AreHeldOf};
 
+use crate::closing::put_columns;
 use crate::room::QueryRoom;
 use crate::view_column::{ColumnAccess, ViewColumn};
 use archetype_store::World;
-use archetype_store::store::{ColumnAt, SharedColumn, TakenColumn};
+use archetype_store::store::ColumnAt;
 use query_plan::Pick;
 use query_plan::spares::take_list;
 use std::alloc::{AllocError, Global};
-use std::mem;
 use std::snapshot::Snapshot;
 
 // Where the picks of a query are: the written ones, and the others.
@@ -37,7 +38,7 @@ impl ColumnRequests {
     }
 
     // Where these picks are, in the room of those before.
-    fn fill(&mut self, picks: &[Pick]) -> Result<(), AllocError>
+    pub(crate) fn fill(&mut self, picks: &[Pick]) -> Result<(), AllocError>
         ensures own { OnOk result (map spot_seen self.new.own.items
             ≡ map spot_of (picked_own (map pick_seen picks.now))) }
         ensures read { OnOk result (map spot_seen self.new.read.items
@@ -60,54 +61,116 @@ impl ColumnRequests {
     }
 }
 
-// Holds columns that were taken of a world, and gives their list back without elements.
+// Takes columns out of a world at these places, and holds them in an empty list that has room for them. After an error the world is as it was.
 fn hold_own(
-    columns: &mut Vec<ViewColumn>,
-    taken: Vec<TakenColumn>,
-    world: &World,
-) -> Vec<TakenColumn>
-    requires { vec_len columns.old + vec_len taken ≤ vec_capacity columns.old }
-    ensures columns { map held_seen columns.new.items
-        ≡ map held_seen columns.old.items ++ map (own_column world.now) taken.items }
-    ensures len { vec_len columns.new ≡ vec_len columns.old + vec_len taken }
-    ensures capacity { vec_capacity columns.new ≡ vec_capacity columns.old }
+    alloc: Global,
+    spots: &[ColumnAt],
+    world: &mut World,
+    columns: Vec<ViewColumn>,
+) -> Result<Vec<ViewColumn>, AllocError>
+    requires can { CanTake world.old.layout spots.now }
+    requires empty { columns.items ≡ [] }
+    requires room { length spots.now ≤ vec_capacity columns }
+    ensures held { IfOk result (λ held. AreOwnOf world.old spots.now (map held_seen held.items)) }
+    ensures away { OnOk result (world.new
+        ≡ record {
+          state = world.old.state;
+          layout = all_away spots.now world.old.layout;
+        }) }
+    ensures len { IfOk result (λ held. vec_len held ≡ length spots.now) }
+    ensures capacity { IfOk result (λ held. vec_capacity held ≡ vec_capacity columns) }
+    ensures err { OnErr result (world.new ≡ world.old) }
 {
-    let mut left = taken;
-    left.reverse();
-    while let Some(own) = left.pop() {
-        columns.push_reserved(ViewColumn {
-            archetype: own.archetype,
-            cells: ColumnAccess::Written(own.column),
-            world: Snapshot::of(world),
-        });
+    // Tell how the layout is that of the state, and that no stamp is above the clock.
+    world.prove_laid();
+    let _now = world.now();
+    let mut held = columns;
+    for at in spots {
+        match world.take_column(alloc, at.archetype, at.kind) {
+            Ok(column) => held.push_reserved(ViewColumn {
+                archetype: at.archetype,
+                cells: ColumnAccess::Written(column),
+                world: Snapshot::of(world),
+            }),
+            Err(_) => {
+                let _list = put_columns(held, world);
+                return Err(AllocError);
+            }
+        }
     }
-    left
+    Ok(held)
 }
 
-// Holds columns that a world shares, and gives their list back without elements.
+// Holds columns that a world shares at these places, behind those of a list that has room for them. After an error the columns of the list are
+// home again.
 fn hold_read(
-    columns: &mut Vec<ViewColumn>,
-    shared: Vec<SharedColumn>,
-    world: &World,
-) -> Vec<SharedColumn>
-    requires { vec_len columns.old + vec_len shared ≤ vec_capacity columns.old }
-    ensures { map held_seen columns.new.items
-        ≡ map held_seen columns.old.items ++ map (read_column world.now) shared.items }
+    alloc: Global,
+    spots: &[ColumnAt],
+    world: &mut World,
+    columns: Vec<ViewColumn>,
+) -> Result<Vec<ViewColumn>, AllocError>
+    requires can { CanShare world.old.layout spots.now }
+    requires lent { CanComeHome (lent_of (map held_seen columns.items)) world.old }
+    requires room { vec_len columns + length spots.now ≤ vec_capacity columns }
+    ensures held { IfOk result (λ held. AreReadOf world.old spots.now
+        (map held_seen columns.items) (map held_seen held.items)) }
+    ensures same { OnOk result (world.new ≡ world.old) }
+    ensures err { OnErr result (world.new
+        ≡ all_home (lent_of (map held_seen columns.items)) world.old) }
 {
-    let mut left = shared;
-    left.reverse();
-    while let Some(read) = left.pop() {
-        columns.push_reserved(ViewColumn {
-            archetype: read.archetype,
-            cells: ColumnAccess::Read(read.column),
-            world: Snapshot::of(world),
-        });
+    let mut held = columns;
+    for at in spots {
+        match world.share_column(alloc, at.archetype, at.kind) {
+            Ok(column) => held.push_reserved(ViewColumn {
+                archetype: at.archetype,
+                cells: ColumnAccess::Read(column),
+                world: Snapshot::of(world),
+            }),
+            Err(_) => {
+                let _list = put_columns(held, world);
+                return Err(AllocError);
+            }
+        }
     }
-    left
+    Ok(held)
+}
+
+// The columns of picks whose places these requests are: taken of a world where they are written, else shared by it. They stand in an empty list.
+// After an error the world is as it was.
+pub(crate) fn take_requested(
+    alloc: Global,
+    _picks: &[Pick],
+    requests: &ColumnRequests,
+    world: &mut World,
+    columns: Vec<ViewColumn>,
+) -> Result<Vec<ViewColumn>, AllocError>
+    requires requests { AreRequestsOf (map pick_seen _picks.now) requests.now.own.items
+        requests.now.read.items }
+    requires home { AreSpotsHome world.old.layout (map pick_seen _picks.now) }
+    requires others { AreOtherSpots (map pick_seen _picks.now) }
+    requires empty { columns.items ≡ [] }
+    ensures held { IfOk result (λ held. AreHeldOf world.old
+        (picked_own (map pick_seen _picks.now) ++ picked_read (map pick_seen _picks.now))
+        (map held_seen held.items)) }
+    ensures away { IfOk result (λ held. world.new
+        ≡ record {
+          state = world.old.state;
+          layout = with_away (lent_of (map held_seen held.items)) world.old.layout;
+        }) }
+    ensures err { OnErr result (world.new ≡ world.old) }
+{
+    // Tell how the layout is that of the state, and that no stamp is above the clock.
+    world.prove_laid();
+    let _now = world.now();
+    let mut columns = columns;
+    columns.reserve(requests.own.len() + requests.read.len())?;
+    let own = hold_own(alloc, &requests.own, world, columns)?;
+    let held = hold_read(alloc, &requests.read, world, own)?;
+    Ok(held)
 }
 
 // The columns that a query picks: taken of a world where they are written, else shared by it. They stand in a list of this room, and so do the
-// requests for them and what the world gives. Where it picks none the world is not asked. After an error the world is as it was.
+// requests for them. After an error the world is as it was.
 pub(crate) fn take_picked(
     alloc: Global,
     picks: &[Pick],
@@ -126,18 +189,9 @@ pub(crate) fn take_picked(
         }) }
     ensures err { OnErr result (world.new ≡ world.old) }
 {
-    let mut columns = take_list(&mut room.columns, alloc);
-    if picks.is_empty() {
-        return Ok(columns);
-    }
-    let taken = mem::replace(&mut room.taken, Vec::new(alloc));
-    let shared = mem::replace(&mut room.shared, Vec::new(alloc));
+    let columns = take_list(&mut room.columns, alloc);
     let requests = &mut room.requests;
     requests.fill(picks)?;
-    columns.reserve(requests.own.len() + requests.read.len())?;
-    let read = world.share_read(alloc, &requests.read, shared)?;
-    let own = world.take_written(alloc, &requests.own, taken)?;
-    room.taken = hold_own(&mut columns, own, world);
-    room.shared = hold_read(&mut columns, read, world);
-    Ok(columns)
+    let held = take_requested(alloc, picks, requests, world, columns)?;
+    Ok(held)
 }

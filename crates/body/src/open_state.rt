@@ -1,6 +1,6 @@
 // A state in a run: a tick, a system shown what it may see, an outcome laid over the world, a condition asked.
 
-ghost use Rattle.std.specs.Prelude.{◌≡◌, ◌+◌, ◌<◌, ◌≤◌, ◌↔◌, ◌++◌, List, [], false, map, min, length, get_or, All, IfOk, OnOk, OnErr, IsErr, IsErrOf};
+ghost use Rattle.std.specs.Prelude.{◌≡◌, ◌+◌, ◌<◌, ◌≤◌, ◌↔◌, ◌++◌, List, [], false, map, min, length, get_or, All, IfOk, IsTrue, OnOk, OnErr, IsErr, IsErrOf};
 ghost use Rattle.std.specs.List.{AllByRecursion};
 ghost use Rattle.kinds.specs.Res.{event_number};
 ghost use Rattle.model.specs.state.State.{most_indices, most_passed_over, no_memory, register_count};
@@ -29,6 +29,7 @@ mod input;
 
 use crate::condition_answer::ask;
 use crate::memory::Memory;
+use crate::plans::Plans;
 use crate::room::Room;
 use crate::state::State;
 use crate::view::View;
@@ -61,6 +62,7 @@ pub struct OpenState {
     pub(crate) passed_over: u64,
     // For the next starts.
     pub(crate) room: Room,
+    pub(crate) plans: Plans,
 }
 
 // One function drops it wherever it is let go.
@@ -73,11 +75,13 @@ impl Drop for OpenState {
             conditions: _,
             passed_over: _,
             room: _,
+            plans: _,
         } = self;
     }
 }
 
 impl Model for OpenState {
+    ghost use Rattle.body.specs.KeptPlans.{forms_of};
     ghost use Rattle.body.specs.Steps.{StateValue, ArePartsOf, counted_state};
 
     ghost Value = { StateValue };
@@ -89,7 +93,7 @@ impl Model for OpenState {
     } };
 
     ghost invariant = { λ s. ArePartsOf s.world.state.clock s.systems.items s.conditions.items
-        s.passed_over };
+        s.passed_over s.plans (forms_of s.world.layout) };
 }
 
 impl OpenState {
@@ -142,6 +146,7 @@ impl OpenState {
         let _ = self.world.now();
         self.world.next()?;
         self.events.update();
+        self.room.queries.begin();
         Ok(())
     }
 
@@ -239,8 +244,13 @@ impl OpenState {
         ensures err { OnErr result (self.new ≡ self.old) }
         ensures home { AreAllHome self.new.layout }
     {
+        if are_empty(buffers, order) {
+            return Ok(());
+        }
         let passed = apply(alloc, &mut self.world, buffers, order, tick)?;
         self.passed_over = counted_on(self.passed_over, passed);
+        self.plans.forget(&self.world);
+        self.room.queries.forget();
         Ok(())
     }
 
@@ -300,7 +310,8 @@ impl OpenState {
         ensures err { OnErr result (self.new ≡ self.old) }
     {
         let mut view = kept_or_blank(alloc, self.room.views.take(), params)?;
-        view.open(
+        let mut plans = self.plans.take(alloc, system);
+        let opened = view.open_planned(
             alloc,
             params,
             &self.systems[system],
@@ -310,7 +321,10 @@ impl OpenState {
             granted,
             commands,
             &mut self.room.queries,
-        )?;
+            &mut plans,
+        );
+        self.plans.put(alloc, system, plans);
+        opened?;
         Ok(view)
     }
 
@@ -411,6 +425,20 @@ impl OpenState {
         self.room.views.give(view);
         Ok(commands)
     }
+}
+
+// Whether none of the buffers of these numbers has commands.
+fn are_empty(buffers: &[CommandBuffer], order: &[u32]) -> bool
+    requires { All (λ n. n < length buffers.now) order.now }
+    ensures { IsTrue result → commands_of buffers.now order.now ≡ [] }
+{
+    let Some((number, others)) = order.split_first() else {
+        return true;
+    };
+    if !buffers[*number as usize].is_empty() {
+        return false;
+    }
+    are_empty(buffers, others)
 }
 
 // Notes a run at a tick in a memory, with readers of these event kinds.

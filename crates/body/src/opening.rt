@@ -1,32 +1,121 @@
 // The queries of a view as they are opened over a world.
 
-ghost use Rattle.std.specs.Prelude.{◌≡◌, ◌<◌, ℕ, [], map, IfOk, OnOk, OnErr};
+ghost use Rattle.std.specs.Prelude.{◌≡◌, ◌<◌, ℕ, List, [], true, map, IfOk, IfSome, IsTrue, OnOk, OnErr};
 ghost use Rattle.std.specs.List.{AllByRecursion};
 ghost use Rattle.model.specs.shown.Input.{rows_of};
 ghost use Rattle.model.specs.access.SelfConflict.{TwoConflictAt};
 ghost use Rattle.model.specs.shown.Outcome.{untouched_rows, untouched_cells};
+ghost use Rattle.archetype_store.specs.Layout.{Archetype};
+ghost use Rattle.query_plan.specs.Picks.{pick_seen};
 ghost use Rattle.query_plan.specs.Standing.{ArePickedHome};
+ghost use Rattle.body.specs.KeptPlans.{forms_of, AreOver, IsStampFree, AsksForKinds};
 ghost use Rattle.body.specs.Lent.{AreLent, lent_of, lent_in, with_away, with_back};
 ghost use Rattle.body.specs.Opened.{ArePickedOf};
 ghost use Rattle.body.specs.Out.{IsWrittenBy};
+ghost use Rattle.body.specs.Picked.{AreRequestsOf};
 ghost use Rattle.body.specs.SeenOver.{AreTogether};
 ghost use Rattle.body.specs.Sheet.{Sheet};
 
 use crate::closing::put_home;
-use crate::columns::take_picked;
+use crate::columns::{ColumnRequests, take_picked};
+use crate::kept_plan::{KeptPlan, PlanParts, is_lasting, keep, slots_again};
 use crate::room::QueryRoom;
 use crate::slot_table::{fill_slots, no_slots};
-use crate::view_query::ViewQuery;
+use crate::view_query::{ColumnIndex, ViewQuery};
 use archetype_store::World;
 use change_ticks::Tick;
 use query::Query;
 use query_plan::plan::plan_by;
 use query_plan::spares::{give_list, take_list};
-use query_plan::{Rows, shape_of};
+use query_plan::{Pick, Rows, shape_of};
 use std::alloc::{AllocError, Global};
+use std::snapshot::Snapshot;
 
-// A query as it is opened over a world at a tick to come: it shows its rows, and the columns that it writes are away. After an error the
-// world is as it was.
+// The most row numbers that are kept in all.
+pub(crate) const MOST_ROWS: usize = 1_048_576;
+
+// The world as it is, without bytes.
+fn seen_now(world: &World) -> Snapshot<World>
+    ensures { result.value ≡ world.now }
+{
+    Snapshot::of(world)
+}
+
+// How many runs have to begin without a change of entities before plans are kept: the one that is on, and one before it.
+const CALM_RUNS: u32 = 2;
+
+// Whether the plan of a query with these rows is kept: no entity changed in the run before, it lasts, and there is room for its row numbers, which
+// is then taken.
+fn is_kept(query: &Query, rows: &Rows, room: &mut QueryRoom) -> bool
+    ensures free { IsTrue result → IsStampFree query.now }
+    ensures kinds { IsTrue result → AsksForKinds query.now }
+{
+    if room.calm_runs < CALM_RUNS || !is_lasting(query) {
+        return false;
+    }
+    let Some(listed) = rows.as_listed() else {
+        return true;
+    };
+    let many = listed.len();
+    if many > room.rows_left {
+        return false;
+    }
+    room.rows_left -= many;
+    true
+}
+
+// These rows, such that they can be shared where their plan is kept.
+fn readied(alloc: Global, rows: Rows, is_kept: bool) -> Result<Rows, AllocError>
+    ensures { IfOk result (λ same. same ≡ rows) }
+{
+    if is_kept {
+        rows.into_shared(alloc)
+    } else {
+        Ok(rows)
+    }
+}
+
+// The parts of a plan that is kept, with its picks, where there is memory for them.
+fn parts_of(
+    alloc: Global,
+    is_kept: bool,
+    picks: Vec<Pick>,
+    slots: &[ColumnIndex],
+    rows: &Rows,
+    room: &mut QueryRoom,
+) -> Option<PlanParts>
+    ensures kept { IfSome result (λ parts. is_kept ≡ true) }
+    ensures picks { IfSome result (λ parts. parts.picks.items ≡ picks.items) }
+    ensures slots { IfSome result (λ parts. parts.slots.items ≡ slots.now) }
+    ensures rows { IfSome result (λ parts. parts.rows ≡ rows.now) }
+    ensures requests { IfSome result (λ parts. AreRequestsOf (map pick_seen parts.picks.items)
+        parts.requests.own.items parts.requests.read.items) }
+{
+    if !is_kept {
+        give_list(&mut room.rows.picks, picks);
+        return None;
+    }
+    let Ok(slots) = slots_again(alloc, slots, room) else {
+        return None;
+    };
+    let Ok(rows) = rows.share(alloc) else {
+        return None;
+    };
+    let mut requests = ColumnRequests::none(alloc);
+    if requests.fill(picks.as_slice()).is_err() {
+        return None;
+    }
+    Some(PlanParts {
+        picks,
+        requests,
+        slots,
+        rows,
+    })
+}
+
+// A query as it is opened over a world at a tick to come: it shows its rows, and the columns that it writes are away. Where its plan lasts it is
+// added to those that are kept. After an error the world is as it was.
+#[inline(never)]
 pub(crate) fn open_query(
     alloc: Global,
     query: &Query,
@@ -34,9 +123,11 @@ pub(crate) fn open_query(
     last_run: Tick,
     tick: Tick,
     room: &mut QueryRoom,
+    plans: &mut Vec<KeptPlan>,
 ) -> Result<ViewQuery, AllocError>
     requires home { ArePickedHome query.now world.old.layout }
     requires coming { world.old.state.clock < tick }
+    requires planned { AreOver (forms_of world.old.layout) plans.old.items }
     ensures terms { IfOk result (λ q. q.terms ≡ query.now) }
     ensures rows { IfOk result (λ q. q.rows ≡ rows_of query.now last_run world.old.state.slots) }
     ensures untouched { IfOk result (λ q. q.cells ≡ untouched_rows q.terms q.rows) }
@@ -47,11 +138,13 @@ pub(crate) fn open_query(
           state = world.old.state;
           layout = with_away (lent_of q.taken) world.old.layout;
         }) }
+    ensures planned { AreOver (forms_of world.old.layout) plans.new.items }
     ensures err { OnErr result (world.new ≡ world.old) }
 {
     // Tell how the layout is that of the state, and that no stamp is above the clock.
     world.prove_laid();
     let _now = world.now();
+    let before = seen_now(world);
     let shape = shape_of(query).number();
     let plan = plan_by(alloc, world, shape, query, last_run, &mut room.rows)?;
     let Ok(count) = u32::try_from(plan.picks.len()) else {
@@ -61,14 +154,64 @@ pub(crate) fn open_query(
         take_list(&mut room.slots, alloc),
         plan.archetypes as usize + 1,
     )?;
-    let rows = Rows::of(alloc, plan.rows, world)?;
+    let found = Rows::of(alloc, plan.rows, world)?;
+    let lasts = is_kept(query, &found, room);
+    let rows = readied(alloc, found, lasts)?;
     let columns = take_picked(alloc, plan.picks.as_slice(), world, room)?;
-    give_list(&mut room.rows.picks, plan.picks);
     fill_slots(&mut slots, query.terms(), columns.as_slice(), count);
+    let parts = parts_of(alloc, lasts, plan.picks, &slots, &rows, room);
+    keep(alloc, query, before, parts, plans);
     Ok(ViewQuery::open(tick, query, slots, rows, columns))
 }
 
-// Queries as they are opened over a world at a tick to come, in the room of a list. After an error the world is as it was, and the list is empty.
+// The plan of a query among these, where there is one.
+fn plan_of<'a>(plans: &'a [KeptPlan], query: &Query) -> Option<&'a KeptPlan>
+    ensures terms { IfSome result (λ plan. plan.now.terms ≡ query.now) }
+    ensures over { IfSome result (λ plan. (forms : List Archetype) → AreOver forms plans.now
+        → plan.now.forms ≡ forms) }
+{
+    for plan in plans {
+        if plan.is_of(query) {
+            return Some(plan);
+        }
+    }
+    None
+}
+
+// A query as it is opened, by its plan where one is kept.
+fn open_next(
+    alloc: Global,
+    query: &Query,
+    world: &mut World,
+    last_run: Tick,
+    tick: Tick,
+    room: &mut QueryRoom,
+    plans: &mut Vec<KeptPlan>,
+) -> Result<ViewQuery, AllocError>
+    requires home { ArePickedHome query.now world.old.layout }
+    requires coming { world.old.state.clock < tick }
+    requires planned { AreOver (forms_of world.old.layout) plans.old.items }
+    ensures terms { IfOk result (λ q. q.terms ≡ query.now) }
+    ensures rows { IfOk result (λ q. q.rows ≡ rows_of query.now last_run world.old.state.slots) }
+    ensures untouched { IfOk result (λ q. q.cells ≡ untouched_rows q.terms q.rows) }
+    ensures taken { IfOk result (λ q. ArePickedOf query.now world.old q.taken) }
+    ensures tick { IfOk result (λ q. q.tick ≡ tick) }
+    ensures away { IfOk result (λ q. world.new
+        ≡ record {
+          state = world.old.state;
+          layout = with_away (lent_of q.taken) world.old.layout;
+        }) }
+    ensures planned { AreOver (forms_of world.old.layout) plans.new.items }
+    ensures err { OnErr result (world.new ≡ world.old) }
+{
+    match plan_of(plans, query) {
+        Some(plan) => plan.open(alloc, world, tick, room),
+        None => open_query(alloc, query, world, last_run, tick, room, plans),
+    }
+}
+
+// Queries as they are opened over a world at a tick to come, in the room of a list. Where the plan of one is kept it is opened by it, else its plan
+// is kept if it lasts. After an error the world is as it was, and the list is empty.
 pub(crate) fn open_queries(
     alloc: Global,
     opened: &mut Vec<ViewQuery>,
@@ -77,10 +220,12 @@ pub(crate) fn open_queries(
     last_run: Tick,
     tick: Tick,
     room: &mut QueryRoom,
+    plans: &mut Vec<KeptPlan>,
 ) -> Result<(), AllocError>
     requires home { AllByRecursion (λ query. ArePickedHome query world.old.layout) queries.now }
     requires apart { (kind : ℕ) → TwoConflictAt queries.now kind → ⊥ }
     requires coming { world.old.state.clock < tick }
+    requires planned { AreOver (forms_of world.old.layout) plans.old.items }
     ensures terms { OnOk result (map (λ (q : Sheet). q.terms) opened.new.items ≡ queries.now) }
     ensures rows { OnOk result (map (λ (q : Sheet). q.rows) opened.new.items
         ≡ map (λ query. rows_of query last_run world.old.state.slots) queries.now) }
@@ -100,6 +245,7 @@ pub(crate) fn open_queries(
     ensures back { OnOk result (with_back (lent_in (map (λ (q : Sheet). q.taken) opened.new.items))
         world.new.layout
         ≡ world.old.layout) }
+    ensures planned { AreOver (forms_of world.old.layout) plans.new.items }
     ensures none { OnErr result (opened.new.items ≡ []) }
     ensures err { OnErr result (world.new ≡ world.old) }
 {
@@ -109,7 +255,7 @@ pub(crate) fn open_queries(
     opened.clear();
     opened.reserve(queries.len())?;
     for query in queries {
-        match open_query(alloc, query, world, last_run, tick, room) {
+        match open_next(alloc, query, world, last_run, tick, room, plans) {
             Ok(one) => opened.push_reserved(one),
             Err(_) => {
                 put_home(opened, world, room);

@@ -3,10 +3,10 @@
 ghost use Rattle.std.specs.Prelude.{◌≡◌};
 
 use crate::columns::ColumnRequests;
+use crate::opening::MOST_ROWS;
 use crate::view::View;
 use crate::view_column::ViewColumn;
 use crate::view_query::ColumnIndex;
-use archetype_store::store::{SharedColumn, TakenColumn};
 use query_plan::{RowBuffers, Spares};
 use std::alloc::Global;
 
@@ -18,17 +18,28 @@ pub struct QueryRoom {
     pub(crate) rows: RowBuffers,
     /// Where the columns are that a query asks a world for.
     pub(crate) requests: ColumnRequests,
-    /// The list in which a world gives the columns that it lends.
-    pub(crate) taken: Vec<TakenColumn>,
-    /// The list in which it gives those that it shares.
-    pub(crate) shared: Vec<SharedColumn>,
     /// Lists for the numbers of columns.
     pub(crate) slots: Spares<Vec<ColumnIndex>>,
     /// Lists for columns.
     pub(crate) columns: Spares<Vec<ViewColumn>>,
+    /// How many runs have begun since entities changed.
+    pub(crate) calm_runs: u32,
+    /// How many more row numbers may be kept in plans.
+    pub(crate) rows_left: usize,
 }
 
 impl QueryRoom {
+    // A run begins.
+    pub(crate) fn begin(&mut self) {
+        self.calm_runs = self.calm_runs.saturating_add(1);
+    }
+
+    // Entities changed: plans are no more kept.
+    pub(crate) fn forget(&mut self) {
+        self.calm_runs = 0;
+        self.rows_left = MOST_ROWS;
+    }
+
     /// Nothing is kept.
     pub fn new(alloc: Global) -> Self
         ensures slots { result.slots ≡ 0 }
@@ -37,10 +48,10 @@ impl QueryRoom {
         QueryRoom {
             rows: RowBuffers::new(alloc),
             requests: ColumnRequests::none(alloc),
-            taken: Vec::new(alloc),
-            shared: Vec::new(alloc),
             slots: Spares::new(alloc),
             columns: Spares::new(alloc),
+            calm_runs: 0,
+            rows_left: MOST_ROWS,
         }
     }
 }

@@ -11,6 +11,7 @@ ghost use Rattle.body.specs.Steps.{AreInTime, HasShape, counted_state, state_of}
 use crate::input::{Input, PutFault};
 use crate::memory::{Memory, copied_memories};
 use crate::open_state::OpenState;
+use crate::plans::Plans;
 use crate::room::Room;
 use archetype_store::World;
 use change_ticks::Clock;
@@ -59,14 +60,17 @@ impl State {
     pub fn empty(alloc: Global) -> Self
         ensures { result ≡ state_of (empty_world 1) (replicate event_count empty_queue) [] [] }
     {
+        let world = World::empty(alloc, Clock::at(1));
+        let plans = Plans::none(alloc, &world);
         State {
             open: OpenState {
-                world: World::empty(alloc, Clock::at(1)),
+                world,
                 events: Events::new(alloc),
                 systems: Vec::new(alloc),
                 conditions: Vec::new(alloc),
                 passed_over: 0,
                 room: Room::new(alloc),
+                plans,
             },
         }
     }
@@ -95,7 +99,9 @@ impl State {
             systems,
             conditions,
         } = memories;
-        let room = Room::new(*systems.allocator());
+        let alloc = *systems.allocator();
+        let room = Room::new(alloc);
+        let plans = Plans::none(alloc, &world);
         State {
             open: OpenState {
                 world,
@@ -104,6 +110,7 @@ impl State {
                 conditions,
                 passed_over,
                 room,
+                plans,
             },
         }
     }
@@ -119,6 +126,7 @@ impl State {
         let events = open.events.copy(alloc)?;
         let systems = copied_memories(alloc, &open.systems)?;
         let conditions = copied_memories(alloc, &open.conditions)?;
+        let plans = Plans::none(alloc, &world);
         Ok(State {
             open: OpenState {
                 world,
@@ -127,6 +135,7 @@ impl State {
                 conditions,
                 passed_over: open.passed_over,
                 room: Room::new(alloc),
+                plans,
             },
         })
     }

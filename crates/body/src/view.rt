@@ -18,6 +18,7 @@ ghost use Rattle.model.specs.shown.Outcome.Command.{Spawn, Insert, Remove, Despa
 ghost use Rattle.query_plan.specs.Standing.{ArePickedHome};
 ghost use Rattle.archetype_store.specs.Overlays.{AreReached};
 ghost use Rattle.body.specs.Fields.{field_read, with_fields, with_listed_fields};
+ghost use Rattle.body.specs.KeptPlans.{forms_of, AreOver};
 ghost use Rattle.body.specs.Laid.{world_after};
 ghost use Rattle.body.specs.Lent.{AreLent, lent_in, with_away, with_back};
 ghost use Rattle.body.specs.Orders.{IsOrder};
@@ -27,6 +28,7 @@ ghost use Rattle.body.specs.Turns.{AreInTurnAt};
 ghost use Rattle.body.specs.Seen.{query_at, rows_at, places_at, row_at, read_at, with_written, resource_read, with_resource, with_register, events_shown, with_emitted, granted_at, with_command};
 
 use crate::closing::put_home;
+use crate::kept_plan::KeptPlan;
 use crate::memory::Memory;
 use crate::opening::open_queries;
 use crate::room::QueryRoom;
@@ -142,6 +144,61 @@ impl View {
             ≡ world.old.layout) }
         ensures err { OnErr result (world.new ≡ world.old) }
     {
+        self.open_planned(
+            alloc,
+            params,
+            memory,
+            events,
+            world,
+            tick,
+            granted,
+            commands,
+            room,
+            &mut Vec::new(alloc),
+        )
+    }
+
+    // The same by these plans, which hold over the world. Those that are made for it and last are added to them.
+    pub(crate) fn open_planned(
+        &mut self,
+        alloc: Global,
+        params: &Params,
+        memory: &Memory,
+        events: &Events,
+        world: &mut World,
+        tick: Tick,
+        granted: &[Entity],
+        commands: CommandBuffer,
+        room: &mut QueryRoom,
+        plans: &mut Vec<KeptPlan>,
+    ) -> Result<(), AllocError>
+        requires empty { commands ≡ [] }
+        requires home { AllByRecursion (λ query. ArePickedHome query world.old.layout)
+            params.now.queries }
+        requires apart { ConflictWithin params.now → ⊥ }
+        requires coming { world.old.state.clock < tick }
+        requires planned { AreOver (forms_of world.old.layout) plans.old.items }
+        ensures params { OnOk result (self.new.params ≡ params.now) }
+        ensures shown { OnOk result ((state : State) → state.world ≡ world.old.state
+            → state.events ≡ events.now
+            → self.new.shown ≡ shown params.now memory.now state granted.now) }
+        ensures untouched { OnOk result (self.new.outcome
+            ≡ untouched self.new.params self.new.shown) }
+        ensures tick { OnOk result (self.new.opening.tick ≡ tick) }
+        ensures written { OnOk result (AllByRecursion
+            (IsWrittenBy params.now.queries world.old.layout) (lent_in
+            self.new.opening.taken)) }
+        ensures lent { OnOk result (AreLent world.new self.new.opening.taken) }
+        ensures away { OnOk result (world.new
+            ≡ record {
+              state = world.old.state;
+              layout = with_away (lent_in self.new.opening.taken) world.old.layout;
+            }) }
+        ensures back { OnOk result (with_back (lent_in self.new.opening.taken) world.new.layout
+            ≡ world.old.layout) }
+        ensures planned { AreOver (forms_of world.old.layout) plans.new.items }
+        ensures err { OnErr result (world.new ≡ world.old) }
+    {
         self.unread
             .open_unread(alloc, params.reads(), memory.cursors(), events)?;
         self.sent.open_empty(alloc, params.writes())?;
@@ -155,6 +212,7 @@ impl View {
             memory.last_run(),
             tick,
             room,
+            plans,
         )?;
         self.tick = tick;
         Ok(())

@@ -16,11 +16,12 @@ use std::alloc::{AllocError, Global};
 use std::marker::Model;
 use std::sync::Arc;
 
-// The rows of all entities of the archetype of a number, so many, or a list.
+// The rows of all entities of the archetype of a number, so many, or a list. A list may be read elsewhere too.
 #[derive(Drop)]
 enum KeptRows {
     All(u32, u32, Arc<Vec<Entity>, Global>),
     Listed(Vec<Row>),
+    Shared(Arc<Vec<Row>, Global>),
 }
 
 /// The rows of a query, which stay as they are whatever becomes of the world. Contracts see a list. Where the rows are all entities of an
@@ -78,13 +79,42 @@ impl Rows {
         }
     }
 
-    /// Gives the buffer of the rows back, where they are listed.
+    /// The same rows, such that `share` copies none of them.
+    pub fn into_shared(self, alloc: Global) -> Result<Self, AllocError>
+        ensures { IfOk result (λ rows. rows ≡ self) }
+    {
+        let Rows { kept } = self;
+        match kept {
+            KeptRows::Listed(rows) => Ok(Rows {
+                kept: KeptRows::Shared(Arc::new(alloc, rows)?),
+            }),
+            kept => Ok(Rows { kept }),
+        }
+    }
+
+    /// The same rows once more. A list that isn't shared is copied.
+    pub fn share(&self, alloc: Global) -> Result<Self, AllocError>
+        ensures { IfOk result (λ rows. rows ≡ self.now) }
+    {
+        let kept = match &self.kept {
+            KeptRows::All(archetype, count, entities) => {
+                KeptRows::All(*archetype, *count, Arc::try_clone(entities)?)
+            }
+            KeptRows::Listed(rows) => KeptRows::Listed(Vec::from_slice(alloc, rows.as_slice())?),
+            KeptRows::Shared(rows) => KeptRows::Shared(Arc::try_clone(rows)?),
+        };
+        Ok(Rows { kept })
+    }
+
+    /// Gives the buffer of the rows back, where they are listed and nobody else reads them.
     pub fn give_back(self, room: &mut RowBuffers)
         ensures { IsGiven room.old.rows room.new.rows }
     {
         let Rows { kept } = self;
-        if let KeptRows::Listed(rows) = kept {
-            give_list(&mut room.rows, rows);
+        match kept {
+            KeptRows::All(_archetype, _count, _entities) => {}
+            KeptRows::Listed(rows) => give_list(&mut room.rows, rows),
+            KeptRows::Shared(rows) => give_shared(rows, room),
         }
     }
 
@@ -95,6 +125,7 @@ impl Rows {
         match &self.kept {
             KeptRows::All(_archetype, count, _entities) => *count as usize,
             KeptRows::Listed(rows) => rows.len(),
+            KeptRows::Shared(rows) => rows.len(),
         }
     }
 
@@ -105,6 +136,7 @@ impl Rows {
         match &self.kept {
             KeptRows::All(_archetype, _count, _entities) => None,
             KeptRows::Listed(rows) => Some(rows.as_slice()),
+            KeptRows::Shared(rows) => Some(rows.as_slice()),
         }
     }
 
@@ -115,6 +147,7 @@ impl Rows {
         match &self.kept {
             KeptRows::All(archetype, _count, _entities) => Some(*archetype),
             KeptRows::Listed(_rows) => None,
+            KeptRows::Shared(_rows) => None,
         }
     }
 
@@ -134,6 +167,16 @@ impl Rows {
                 }
             }
             KeptRows::Listed(rows) => rows[row],
+            KeptRows::Shared(rows) => rows[row],
         }
+    }
+}
+
+// Gives the buffer of shared rows back, where nobody else reads them.
+fn give_shared(rows: Arc<Vec<Row>, Global>, room: &mut RowBuffers)
+    ensures { IsGiven room.old.rows room.new.rows }
+{
+    if let Some(rows) = Arc::into_inner(rows) {
+        give_list(&mut room.rows, rows);
     }
 }

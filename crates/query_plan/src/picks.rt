@@ -88,9 +88,9 @@ fn pick_in(
     Ok(())
 }
 
-// Whether a query matches these kinds.
+/// Whether a query matches these kinds.
 #[tactic(auto, using(crate::proofs::RowLists::over_terms))]
-pub(crate) fn matches_kinds(query: &Query, kinds: &[Kind]) -> bool
+pub fn matches_kinds(query: &Query, kinds: &[Kind]) -> bool
     ensures { result ≡ matches query.now (λ kind. has kind (map kind_number kinds.now)) }
 {
     admit_all(query.terms(), kinds)

@@ -113,7 +113,11 @@ impl OpenState {
         let row = row_at(alloc, values, tick)?;
         let Ok(_) = self.next() else { unreachable!() };
         match self.world.spawn(alloc, row) {
-            Ok(entity) => Ok(entity),
+            Ok(entity) => {
+                self.plans.forget(&self.world);
+                self.room.queries.forget();
+                Ok(entity)
+            }
             Err(fault) => {
                 self.world.give_back_tick();
                 Err(fault)

@@ -1,16 +1,15 @@
-use Rattle.std.proofs.Common.{◌≡◌, ◌+◌, ◌++◌, map, vec_len}
-use Rattle.std.specs.Prelude.{reverse, vec_capacity}
+use Rattle.std.proofs.Common.{◌≡◌, take, map, vec_len}
+use Rattle.std.specs.Prelude.{vec_capacity}
+use Rattle.archetype_store.specs.Lending.{all_away}
 use Rattle.body.specs.HeldColumns.{held_seen}
-use Rattle.body.specs.Picked.{own_column}
+use Rattle.body.specs.Picked.{AreOwnOf}
 use Rattle.body.proofs.columns.hold_own.Given as goal
 
--- the columns so far are held, and those that are left, the last first, are to come
-abbrev pub invariant-loop-own : goal.invariant-loop-own
-invariant-loop-own l = record {
-  columns : map held_seen l.columns.items ++ map (own_column l.world) (reverse l.left.items) ≡ map held_seen l.fn.columns.items ++ map (own_column l.world) l.fn.taken.items;
-  len : vec_len l.columns + vec_len l.left ≡ vec_len l.fn.columns + vec_len l.fn.taken;
-  capacity : vec_capacity l.columns ≡ vec_capacity l.fn.columns;
+-- the columns so far are held, and there is room for all
+abbrev pub invariant-loop-at : goal.invariant-loop-at
+invariant-loop-at l = record {
+  away : l.world ≡ record { state = l.initial.world.state; layout = all_away (take l.at-index l.spots) l.initial.world.layout };
+  own : AreOwnOf l.initial.world (take l.at-index l.spots) (map held_seen l.held.items);
+  many : vec_len l.held ≡ l.at-index;
+  capacity : vec_capacity l.held ≡ vec_capacity l.initial.held;
 }
-
-abbrev pub decreases-loop-own : goal.decreases-loop-own
-decreases-loop-own l = vec_len l.left

@@ -1,16 +1,14 @@
-use Rattle.std.proofs.Common.{◌≡◌, ◌+◌, ◌++◌, map, vec_len}
-use Rattle.std.specs.Prelude.{reverse, vec_capacity}
+use Rattle.std.proofs.Common.{◌≡◌, ◌+◌, take, map, vec_len}
+use Rattle.std.specs.Prelude.{vec_capacity}
 use Rattle.body.specs.HeldColumns.{held_seen}
-use Rattle.body.specs.Picked.{read_column}
+use Rattle.body.specs.Picked.{AreReadOf}
 use Rattle.body.proofs.columns.hold_read.Given as goal
 
--- the columns so far are held, and those that are left, the last first, are to come
-abbrev pub invariant-loop-read : goal.invariant-loop-read
-invariant-loop-read l = record {
-  columns : map held_seen l.columns.items ++ map (read_column l.world) (reverse l.left.items) ≡ map held_seen l.fn.columns.items ++ map (read_column l.world) l.fn.shared.items;
-  len : vec_len l.columns + vec_len l.left ≡ vec_len l.fn.columns + vec_len l.fn.shared;
-  capacity : vec_capacity l.columns ≡ vec_capacity l.fn.columns;
+-- the columns so far are held, and there is room for all
+abbrev pub invariant-loop-at : goal.invariant-loop-at
+invariant-loop-at l = record {
+  same : l.world ≡ l.initial.world;
+  read : AreReadOf l.initial.world (take l.at-index l.spots) (map held_seen l.initial.held.items) (map held_seen l.held.items);
+  many : vec_len l.held ≡ vec_len l.initial.held + l.at-index;
+  capacity : vec_capacity l.held ≡ vec_capacity l.initial.held;
 }
-
-abbrev pub decreases-loop-read : goal.decreases-loop-read
-decreases-loop-read l = vec_len l.left

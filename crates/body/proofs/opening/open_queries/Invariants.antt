@@ -1,5 +1,6 @@
 use Rattle.std.proofs.Common.{◌≡◌, ◌≤◌, length, take, vec_len}
 use Rattle.std.specs.Prelude.{vec_capacity}
+use Rattle.body.specs.KeptPlans.{forms_of, AreOver}
 use Rattle.body.proofs.QueryOpens.{AreOpened}
 use Rattle.body.proofs.opening.open_queries.Given as goal
 
@@ -9,4 +10,5 @@ invariant-loop-query l = record {
   opened : AreOpened l.tick l.last_run l.initial.world (take l.query-index l.queries) l.opened.items l.world;
   many : vec_len l.opened ≡ l.query-index;
   room : length l.queries ≤ vec_capacity l.opened;
+  planned : AreOver (forms_of l.initial.world.layout) l.plans.items;
 }

@@ -7,11 +7,13 @@ use Rattle.model.proofs.lists.Lists.{length-update_at}
 use Rattle.model.specs.shown.Outcome.{words_written}
 use Rattle.model.specs.shown.Overlay.{slots_after}
 use Rattle.archetype_store.specs.Store.{StoreValue}
+use Rattle.body.specs.KeptPlans.{forms_of}
 use Rattle.body.specs.Laid.{with_slots}
 use Rattle.body.specs.Lent.{lent_in, with_back}
 use Rattle.body.specs.Out.{AreOut}
 use Rattle.body.specs.Seen.{Seen}
 use Rattle.body.specs.Steps.{StateValue, IsInTime, store_of}
+use Rattle.body.proofs.KeptPlans.{forms-back}
 use Rattle.body.proofs.Outs.{out-closed, out-same}
 use Rattle.body.proofs.Times.{kept_in_time}
 use Rattle.body.proofs.open_state.OpenState.close.Goals as goal
@@ -34,6 +36,7 @@ invariant_of-self-2 c =
         conditions_in = subst (λ clock. IsInTime clock c.self.inside.conditions.items) (sym clock_is) c.self.invariant.in_time.conditions_in;
       };
       counted = c.self.invariant.counted;
+      planned_is = c.self.invariant.planned_is ∙ sym (ap (λ (x : StoreValue). forms_of x.layout) c.close-commands.ensures.home ∙ forms-back (lent_in c.deref_mut.result.now.opening.taken) c.self.inside.world.layout);
     }
 
 pub returns-clause-out : goal.returns-clause-out

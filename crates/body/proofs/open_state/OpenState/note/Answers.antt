@@ -28,4 +28,5 @@ invariant_of-self c =
         conditions_in = c.self.invariant.in_time.conditions_in;
       };
       counted = c.self.invariant.counted;
+      planned_is = c.self.invariant.planned_is;
     }

@@ -28,4 +28,5 @@ invariant_of-self c =
         systems_in = c.self.invariant.in_time.systems_in;
       };
       counted = c.self.invariant.counted;
+      planned_is = c.self.invariant.planned_is;
     }

@@ -8,7 +8,7 @@ use Rattle.body.specs.Issued.{IssuedSeen}
 use Rattle.body.specs.Sheet.{Sheet}
 use Rattle.body.specs.Values.{ValuesSeen}
 use Rattle.body.proofs.Views.{seen_over-shown}
-use Rattle.body.proofs.view.View.open.Goals as goal
+use Rattle.body.proofs.view.View.open_planned.Goals as goal
 
 pub open_queries-requires-clause-apart : goal.open_queries-requires-clause-apart
 open_queries-requires-clause-apart c = λ kind two. c.requires.apart (OfKind kind, subst (λ qs. TwoConflictAt qs kind) c.queries.ensures.queries two)
