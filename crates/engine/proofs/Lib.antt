@@ -26,3 +26,5 @@ pub mod RunAgreement
 pub mod RunKept
 mod TurnAlone
 mod Inputs
+mod RunnerSteps
+mod DeskTurns

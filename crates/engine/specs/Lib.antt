@@ -12,3 +12,4 @@ pub mod Next
 pub mod FirstState
 pub mod Inputs
 pub mod Alone
+pub mod UnderWay
