@@ -28,3 +28,5 @@ mod TurnAlone
 mod Inputs
 mod RunnerSteps
 mod DeskTurns
+mod Sent
+mod Taken

@@ -13,3 +13,4 @@ pub mod FirstState
 pub mod Inputs
 pub mod Alone
 pub mod UnderWay
+pub mod Ends

@@ -11,6 +11,8 @@ pub mod faults;
 pub mod first_state;
 pub mod fitting;
 mod granting;
+mod helpers;
+mod hold;
 mod jobs;
 mod recording;
 mod relayed;
@@ -19,6 +21,7 @@ pub mod run_state;
 mod runner;
 mod shapes;
 pub mod stop;
+mod team;
 pub mod turn;
 
 pub use crew::Crew;

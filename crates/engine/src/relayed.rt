@@ -298,3 +298,11 @@ fn halt<B: Body>(
         outcome: Err(stop),
     })
 }
+
+// What crosses threads has to be able to.
+fn may_be_sent<T: Send + Drop>(_value: T) {}
+
+fn _runs_may_be_sent<B: Body>(runs: Relayed<B>, end: RunsEnd<B>) {
+    may_be_sent(runs);
+    may_be_sent(end);
+}

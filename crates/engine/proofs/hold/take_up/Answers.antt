@@ -1,0 +1,7 @@
+use Rattle.job_board.specs.Ends.{hand_view, hand_slots}
+use Rattle.engine.specs.Ends.{EndsAs}
+use Rattle.engine.proofs.Taken.{taken_up}
+use Rattle.engine.proofs.hold.take_up.Goals as goal
+
+pub returns-in-None : goal.returns-in-None
+returns-in-None g c = taken_up (EndsAs g.B.Body.meaning g.B.Body.fits) (hand_view c.args.hand.now) (hand_view c.try_take.new.self) (hand_slots c.args.hand.now) c.try_take.result c.try_take.ensures.taken
