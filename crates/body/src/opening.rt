@@ -31,7 +31,7 @@ use query_plan::{Pick, Rows, shape_of};
 use std::alloc::{AllocError, Global};
 use std::snapshot::Snapshot;
 
-// The most row numbers that are kept in all.
+// The most row numbers, and places of archetypes in tables of columns, that are kept in all.
 pub(crate) const MOST_ROWS: usize = 1_048_576;
 
 // The world as it is, without bytes.
@@ -44,19 +44,20 @@ fn seen_now(world: &World) -> Snapshot<World>
 // How many runs have to begin without a change of entities before plans are kept: the one that is on, and one before it.
 const CALM_RUNS: u32 = 2;
 
-// Whether the plan of a query with these rows is kept: no entity changed in the run before, it lasts, and there is room for its row numbers, which
-// is then taken.
-fn is_kept(query: &Query, rows: &Rows, room: &mut QueryRoom) -> bool
+// Whether the plan of a query with these rows, over a table of so many archetypes, is kept: no entity changed in the run before, it lasts, and
+// there is room for its numbers, which is then taken.
+fn is_kept(query: &Query, rows: &Rows, archetypes: u32, room: &mut QueryRoom) -> bool
     ensures free { IsTrue result → IsStampFree query.now }
     ensures kinds { IsTrue result → AsksForKinds query.now }
 {
     if room.calm_runs < CALM_RUNS || !is_lasting(query) {
         return false;
     }
-    let Some(listed) = rows.as_listed() else {
-        return true;
+    let listed = match rows.as_listed() {
+        Some(listed) => listed.len(),
+        None => 0,
     };
-    let many = listed.len();
+    let many = listed.saturating_add(archetypes as usize);
     if many > room.rows_left {
         return false;
     }
@@ -155,7 +156,7 @@ pub(crate) fn open_query(
         plan.archetypes as usize + 1,
     )?;
     let found = Rows::of(alloc, plan.rows, world)?;
-    let lasts = is_kept(query, &found, room);
+    let lasts = is_kept(query, &found, plan.archetypes, room);
     let rows = readied(alloc, found, lasts)?;
     let columns = take_picked(alloc, plan.picks.as_slice(), world, room)?;
     fill_slots(&mut slots, query.terms(), columns.as_slice(), count);

@@ -24,7 +24,7 @@ pub struct QueryRoom {
     pub(crate) columns: Spares<Vec<ViewColumn>>,
     /// How many runs have begun since entities changed.
     pub(crate) calm_runs: u32,
-    /// How many more row numbers may be kept in plans.
+    /// How many more row numbers, and places of archetypes, may be kept in plans.
     pub(crate) rows_left: usize,
 }
 
