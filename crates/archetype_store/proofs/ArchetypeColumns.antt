@@ -377,7 +377,7 @@ pub some_map_none : {A B : Type 0} (f : A → B) (o : Option A) → option_map f
 some_map_none f None h = refl
 some_map_none f (Some x) h = absurd (cc)
 
-module _ (T : List TableValue) (P : List (Option EntityLocation)) (s : Bool) (n t : ℕ) (at : IsTableOf T n t) (c : ColumnCells) (h : IsStored T P s) where
+module _ (T : List TableValue) (P : List (Option EntityLocation)) (n t : ℕ) (at : IsTableOf T n t) (c : ColumnCells) (whole : AreArchetypes T P) where
   -- what is held after it: in its table the rows have its cells
   held_homed : (m : ℕ) (e : Entity) →
       held_at (set T t (homed (table_at T t) c)) m e
@@ -388,7 +388,7 @@ module _ (T : List TableValue) (P : List (Option EntityLocation)) (s : Bool) (n 
           ≡ option_map (row_with c.kind (cond (m == t) (cell_for e (map (λ (row : TableRow). row.entity) (table_at T t).rows) c.cells) None)) (held_at T m e)
       go (inl same) = ap (λ i. held_at (set T t (homed (table_at T t) c)) i e) same
           ∙ ap (λ x. held_in x e) (get_or-set_same T t (homed (table_at T t) c) (empty_table []) at.within)
-          ∙ held_filled (kinds_at T t) c.kind c.cells (table_at T t).rows e (shape_at T t at.within h.whole.shaped).below (h.whole.of_kinds t e)
+          ∙ held_filled (kinds_at T t) c.kind c.cells (table_at T t).rows e (shape_at T t at.within whole.shaped).below (whole.of_kinds t e)
           ∙ ap₂ (λ b i. option_map (row_with c.kind (cond b (cell_for e (map (λ (row : TableRow). row.entity) (table_at T t).rows) c.cells) None)) (held_at T i e)) (sym (eq-eqb m t same)) (sym same)
       go (inr apart) = ap (λ x. held_in x e) (get_or-set_other T t m (homed (table_at T t) c) (empty_table []) apart)
           ∙ option_map-none c.kind (held_at T m e)
@@ -403,17 +403,17 @@ module _ (T : List TableValue) (P : List (Option EntityLocation)) (s : Bool) (n 
 
   whole_homed : AreArchetypes (set T t (homed (table_at T t) c)) P
   whole_homed = record {
-    agree = λ m e. ap is_some (held_homed m e) ∙ is_some-map (row_with c.kind (cond (m == t) (cell_for e (map (λ (row : TableRow). row.entity) (table_at T t).rows) c.cells) None)) (held_at T m e) ∙ h.whole.agree m e;
+    agree = λ m e. ap is_some (held_homed m e) ∙ is_some-map (row_with c.kind (cond (m == t) (cell_for e (map (λ (row : TableRow). row.entity) (table_at T t).rows) c.cells) None)) (held_at T m e) ∙ whole.agree m e;
     of_kinds = λ m e. subst (λ ks. IsOfKinds ks (held_at (set T t (homed (table_at T t) c)) m e)) (sym (kinds_homed m))
         (subst (IsOfKinds (kinds_at T m)) (sym (held_homed m e))
-        (kinds-map (kinds_at T m) c.kind (cond (m == t) (cell_for e (map (λ (row : TableRow). row.entity) (table_at T t).rows) c.cells) None) (held_at T m e) (h.whole.of_kinds m e)));
+        (kinds-map (kinds_at T m) c.kind (cond (m == t) (cell_for e (map (λ (row : TableRow). row.entity) (table_at T t).rows) c.cells) None) (held_at T m e) (whole.of_kinds m e)));
     shaped = shaped_kinds T (set T t (homed (table_at T t) c)) (map-set_same (λ (x : TableValue). x.kinds) T t (homed (table_at T t) c) (empty_table []) refl)
-        (map-set_same (λ (x : TableValue). length x.standings) T t (homed (table_at T t) c) (empty_table []) (length-update_kind (kinds_at T t) c.kind Owned (table_at T t).standings)) h.whole.shaped;
-    unlike = unlike_kinds T (set T t (homed (table_at T t) c)) (map-set_same (λ (x : TableValue). x.kinds) T t (homed (table_at T t) c) (empty_table []) refl) h.whole.unlike;
+        (map-set_same (λ (x : TableValue). length x.standings) T t (homed (table_at T t) c) (empty_table []) (length-update_kind (kinds_at T t) c.kind Owned (table_at T t).standings)) whole.shaped;
+    unlike = unlike_kinds T (set T t (homed (table_at T t) c)) (map-set_same (λ (x : TableValue). x.kinds) T t (homed (table_at T t) c) (empty_table []) refl) whole.unlike;
   }
 
-  pub stored_homed : IsStored (set T t (homed (table_at T t) c)) P s
-  stored_homed = record {
+  pub stored_homed : (s : Bool) → IsStored T P s → IsStored (set T t (homed (table_at T t) c)) P s
+  stored_homed s h = record {
     whole = whole_homed;
     bare = each_set (λ x. is_there x.rows ≡ false → list_all is_home x.standings ≡ true) T t (homed (table_at T t) c)
         (λ none. absurd (let e : true ≡ false = sym at.peopled ∙ sym (there_filled (kinds_at T t) c.kind c.cells (table_at T t).rows) ∙ none in cc)) h.bare;
@@ -438,7 +438,7 @@ module _ (T : List TableValue) (P : List (Option EntityLocation)) (s : Bool) (n 
       go true same = refl
       go false other =
           let x : Entity = record { index = i; generation = p.generation } in
-          let none : held_at T t x ≡ None = not_elsewhere T P h.whole x p k t (other_than p.table t other) in
+          let none : held_at T t x ≡ None = not_elsewhere T P whole x p k t (other_than p.table t other) in
           ap (λ cell. row_with c.kind cell (row_or_none (held_at T p.table x)))
           (sym (absent_for (table_at T t).rows c.cells x (some_map_none (components_of (kinds_at T t)) (row_in_table x (table_at T t).rows) none)))
 

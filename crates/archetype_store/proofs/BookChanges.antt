@@ -23,7 +23,7 @@ use Rattle.archetype_store.specs.declared.change.Fate.TheVariants as the
 use Rattle.archetype_store.specs.declared.change.EntityChange.{EntityChange}
 use Rattle.archetype_store.specs.Changes.{row_left, components_left, slot_left, change_at, changed, living_slot, settled_slot, book_changed, AreOfOtherIndices, IsHeldBy}
 use Rattle.archetype_store.specs.Storage.{StorageValue, row_of, holder_of, holder_if, HaveRows, row_changed, holder_changed}
-use Rattle.archetype_store.specs.Entities.{HasRows}
+use Rattle.archetype_store.specs.Inside.{HasRows}
 use Rattle.archetype_store.specs.Row.{component_of}
 use Rattle.archetype_store.proofs.RowEdits.{kinds-components, below_from_rising}
 use Rattle.archetype_store.proofs.RowMoves.{index_flipped}

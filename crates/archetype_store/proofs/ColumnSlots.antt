@@ -17,7 +17,7 @@ use Rattle.column_store.proofs.Apart.{same_self}
 use Rattle.archetype_store.specs.Layout.{archetype_at, is_in_archetype}
 use Rattle.archetype_store.specs.Storage.{StorageValue, row_of, holder_of, row_cells, cell_for, cell_held, row_with, IsFilled, IsLaidOut}
 use Rattle.archetype_store.specs.Slot.{cell_of, column_cells}
-use Rattle.archetype_store.specs.Entities.{HasRows}
+use Rattle.archetype_store.specs.Inside.{HasRows}
 use Rattle.archetype_store.specs.Store.{with_slots, slots_with, IsPast}
 use Rattle.archetype_store.proofs.ArchetypeColumns.{row_with_kinds}
 use Rattle.archetype_store.proofs.RowEdits.{below_from_rising, rising_from_below}

@@ -1,19 +1,19 @@
 -- Where columns stand: at home, the tables' alone, read elsewhere too.
-use Rattle.std.proofs.Common.{◌≡◌, ℕ, zero, suc, ◌<◌, Bool, true, false, cond, ◌==◌, ◌&&◌, List, [], ◌∷◌, length, get_or, set, map, Option, Some, None, is_some, refl, sym, ap, ap₂, subst, ◌∙◌, arith}
+use Rattle.std.proofs.Common.{◌≡◌, ℕ, zero, suc, ◌<◌, Bool, true, false, cond, ◌&&◌, List, [], ◌∷◌, length, get_or, set, map, Option, Some, None, is_some, refl, sym, ap, ap₂, subst, ◌∙◌, arith}
 use Rattle.std.specs.List.{list_all, AllByRecursion}
 use Rattle.std.proofs.lemmas.List.{length-map}
 use Rattle.model.specs.Lists.{is_there}
 use Rattle.model.specs.declared.entities.Entity.{Entity}
 use Rattle.model.proofs.lists.Lists.{map_index-same}
-use Rattle.column_store.specs.Kinds.{at_kind, AreBelow}
-use Rattle.column_store.specs.Table.{Standing, TableRow, TableValue, is_home, is_owned, is_not_away, standing_of, IsAlike}
+use Rattle.column_store.specs.Kinds.{AreBelow}
+use Rattle.column_store.specs.Table.{Standing, TableRow, TableValue, is_home, is_owned, IsAlike}
 use Rattle.column_store.specs.Table.Standing.{Owned, Shared, Away}
 use Rattle.column_store.proofs.Edited.{owned_home}
 use Rattle.std.proofs.lemmas.Bool.{and_parts as both}
 use Rattle.archetype_store.specs.declared.locations.EntityLocation.{EntityLocation}
 use Rattle.archetype_store.specs.Layout.{Archetype, archetype_of, layout_of, AreAllHome}
 use Rattle.archetype_store.specs.Tables.{table_at, kinds_at, held_in, held_at, row_or_none, shape_of, is_unshared, AreShaped, AreUnlike, AreHome, AreOwned, AreUnshared, AreBareHome, AreAllAlike}
-use Rattle.archetype_store.specs.Storage.{StorageValue, archetypes_of, row_in, holder_in, place_of, is_place, IsOfKinds, IsStored, AreAlike, AreArchetypes}
+use Rattle.archetype_store.specs.Storage.{StorageValue, archetypes_of, row_in, holder_in, IsOfKinds, IsStored, AreAlike, AreArchetypes}
 
 -- ---- all columns of a table
 
@@ -37,16 +37,6 @@ homes_unshared (s ∷ ss) h k =
     let a = both (is_home s) (list_all is_home ss) h in let b = both (is_unshared s) (list_all is_unshared ss) k in
     ap₂ ◌&&◌ (home_unshared s a.0 b.0) (homes_unshared ss a.1 b.1)
 
--- where all are at home, that of a kind is
-not_away_in : (ks : List ℕ) (k : ℕ) (ss : List Standing) → list_all is_home ss ≡ true → is_not_away (at_kind ks k ss) ≡ true
-not_away_in [] k ss h = refl
-not_away_in (n ∷ ks) k [] h = refl
-not_away_in (n ∷ ks) k (s ∷ ss) h = go (n == k) (both (is_home s) (list_all is_home ss) h).0 (not_away_in ks k ss (both (is_home s) (list_all is_home ss) h).1)
-  where
-    go : (b : Bool) → is_home s ≡ true → is_not_away (at_kind ks k ss) ≡ true → is_not_away (cond b (Some s) (at_kind ks k ss)) ≡ true
-    go true a c = a
-    go false a c = c
-
 pub owned_all : (ss : List Standing) → list_all is_owned (map (λ _. Owned) ss) ≡ true
 owned_all [] = refl
 owned_all (s ∷ ss) = owned_all ss
@@ -58,14 +48,8 @@ at_of P [] t l h = absurd (omega arith)
 at_of P (u ∷ us) zero l h = h.0
 at_of P (u ∷ us) (suc t) l h = at_of P us t (omega arith) h.1
 
-pub home_at : (tables : List TableValue) (t : ℕ) → t < length tables → AreHome tables → list_all is_home (table_at tables t).standings ≡ true
-home_at tables t l h = at_of (λ u. list_all is_home u.standings ≡ true) tables t l h
-
 pub owned_at : (tables : List TableValue) (t : ℕ) → t < length tables → AreOwned tables → list_all is_owned (table_at tables t).standings ≡ true
 owned_at tables t l h = at_of (λ u. list_all is_owned u.standings ≡ true) tables t l h
-
-pub not_away_at : (tables : List TableValue) (t n : ℕ) → t < length tables → AreHome tables → is_not_away (standing_of (table_at tables t) n) ≡ true
-not_away_at tables t n l h = not_away_in (table_at tables t).kinds n (table_at tables t).standings (home_at tables t l h)
 
 pub owned_are_home : (tables : List TableValue) → AreOwned tables → AreHome tables
 owned_are_home [] h = tt
@@ -127,12 +111,6 @@ homes_alike t u h k = sym (homes_seen u.standings) ∙ ap (list_all (λ home. ho
 pub alike_self : (ts : List TableValue) → AreAllAlike ts ts
 alike_self [] = tt
 alike_self (t ∷ ts) = (record { kinds = refl; homes = refl; rows = refl }, alike_self ts)
-
-pub alike_home : (ts us : List TableValue) → AreAllAlike ts us → AreHome ts → AreHome us
-alike_home [] [] h k = tt
-alike_home [] (u ∷ us) h k = absurd h
-alike_home (t ∷ ts) [] h k = absurd h
-alike_home (t ∷ ts) (u ∷ us) h k = (homes_alike t u h.0 k.0, alike_home ts us h.1 k.1)
 
 pub alike_bare : (ts us : List TableValue) → AreAllAlike ts us → AreBareHome ts → AreBareHome us
 alike_bare [] [] h k = tt
@@ -240,15 +218,6 @@ alike_value ts us P h =
 pub value_alike : (a b : StorageValue) → b ≡ a → AreAlike a b
 value_alike a b h = subst (AreAlike a) (sym h) (record { rows = λ i. refl; holders = λ i. refl; layout = refl })
 
--- places that are alike keep what is whole
-pub reached_whole : (T : List TableValue) (P Q : List (Option EntityLocation)) → ((i : ℕ) → place_of Q i ≡ place_of P i) → AreArchetypes T P → AreArchetypes T Q
-reached_whole T P Q same h = record {
-  agree = λ t e. h.agree t e ∙ ap (λ o. is_place o e.generation t) (sym (same e.index));
-  of_kinds = h.of_kinds;
-  shaped = h.shaped;
-  unlike = h.unlike;
-}
-
 module _ (T : List TableValue) (P : List (Option EntityLocation)) (s : Bool) where
   -- where all columns are the tables' alone, the note can be any
   pub owned_stored : AreArchetypes T P → AreOwned T → IsStored T P s
@@ -263,6 +232,3 @@ module _ (T T' : List TableValue) (P : List (Option EntityLocation)) (s s' : Boo
 
   pub alike_whole : AreArchetypes T P → AreArchetypes T' P
   alike_whole whole = same_whole T T' (alike_same T T' alike) P whole
-
-  pub alike_all_home : AreHome T → AreAllHome (layout_of T')
-  alike_all_home home = home_layout T' (alike_home T T' alike home)

@@ -11,7 +11,7 @@ use Rattle.entity_table.specs.Rows.{with_rows}
 use Rattle.entity_table.proofs.WithRows.{status-with_rows, generation-with_rows}
 use Rattle.archetype_store.specs.Storage.{StorageValue, row_of}
 use Rattle.archetype_store.specs.Slot.{bare_of}
-use Rattle.archetype_store.specs.Entities.{HasRows}
+use Rattle.archetype_store.specs.Inside.{HasRows}
 use Rattle.archetype_store.proofs.SlotRows.{row_at_slots}
 
 and_one : (b c : Bool) → c ≡ true → (b && c) ≡ b

@@ -12,6 +12,8 @@ pub mod PlacesAfterRowChange
 pub mod TableForRow
 pub mod PlannedTables
 pub mod RowDepartures
+pub mod RowsMoved
+pub mod RowsHeld
 pub mod RowNumbers
 pub mod SingleRowMove
 pub mod RowTargets
@@ -22,6 +24,8 @@ pub mod BookChanges
 pub mod TableGrowth
 pub mod OneChange
 pub mod RowSteps
+pub mod PlacedRow
+pub mod RowsChanged
 pub mod SlotRows
 pub mod EmptyEntities
 pub mod TableLayouts
@@ -39,3 +43,4 @@ pub mod ColumnsAtHome
 pub mod TableCopies
 pub mod NewEntity
 pub mod NewSlots
+pub mod StoreKept

@@ -13,7 +13,7 @@ use Rattle.archetype_store.specs.declared.change.Fate.{Fate}
 use Rattle.archetype_store.specs.declared.change.EntityChange.{EntityChange}
 use Rattle.archetype_store.specs.Changes.{book_changed, changed, slot_left, IsHeldBy}
 use Rattle.archetype_store.specs.Storage.{StorageValue, row_of, HaveRows}
-use Rattle.archetype_store.specs.Entities.{HasRows}
+use Rattle.archetype_store.specs.Inside.{HasRows}
 use Rattle.archetype_store.proofs.OneChange.{one_changed}
 use Rattle.archetype_store.proofs.BookChanges.{slots_changed}
 use Rattle.archetype_store.proofs.SlotRows.{past_bare}

@@ -1,8 +1,5 @@
 -- What an index behind the last one makes of slots and of a world.
-use Rattle.std.proofs.Common.{◌≡◌, ℕ, zero, suc, ◌<◌, ◌≤◌, true, ◌⊎◌, inl, inr, ⊎_elim, Result, Ok, Err, List, [], ◌∷◌, ◌++◌, length, ap, sym, ◌∙◌, arith}
-use Rattle.std.specs.Prelude.{OnOk, OnErr, IsErrOf}
-use Rattle.entity_table.specs.declared.fault.GrantFault.{GrantFault}
-use Rattle.entity_table.specs.declared.fault.GrantFault.TheVariants.{IdsSpent}
+use Rattle.std.proofs.Common.{◌≡◌, ℕ, zero, suc, ◌<◌, ◌≤◌, true, ◌⊎◌, inl, inr, List, [], ◌∷◌, ◌++◌, length, ap, sym, ◌∙◌, arith}
 use Rattle.std.proofs.lemmas.Bool.{false≢true, cases_lt}
 use Rattle.std.proofs.lemmas.List.{get_or_append_left, get_or_past, length-append}
 use Rattle.model.specs.declared.entities.Entity.{Entity}
@@ -49,8 +46,3 @@ world-pushed W w generation status h l p =
     world-slots W w (w.slots ++ empty_slot generation status ∷ [])
     (each-append (IsSlot W w.clock) w.slots (empty_slot generation status ∷ []) p.slots (slot-anywhere W w.clock generation status h, tt))
     (omega (arith, length-append w.slots (empty_slot generation status ∷ []))) p
-
--- what a call has done that refuses where a count is reached, and else only for a failed allocation
-pub pushed_or_not : (r : Result (Unit {0}) GrantFault) (count : ℕ) (P Q : Type 0) → count ≤ most_indices → OnOk r P → OnErr r Q → (count ≡ most_indices → IsErrOf r IdsSpent) → ((count < most_indices) × P) ⊎ Q
-pushed_or_not (Ok x) count P Q few p q h = inl (⊎_elim (λ (l : count < most_indices). l) (λ (l : most_indices ≤ count). let e = h (omega arith) in cc) (cases_lt count most_indices), p)
-pushed_or_not (Err e) count P Q few p q h = inr q

@@ -1,20 +1,17 @@
 -- Tables where rows can be changed: some may be made, and some have other room.
-use Rattle.std.proofs.Common.{◌≡◌, ℕ, false, List, map, Option, refl}
+use Rattle.std.proofs.Common.{◌≡◌, ℕ, List, map, Option, refl}
 use Rattle.std.specs.List.{AllByRecursion}
 use Rattle.model.proofs.lists.Each.{each-weaker}
 use Rattle.column_store.specs.Table.{TableValue}
 use Rattle.archetype_store.specs.declared.locations.EntityLocation.{EntityLocation}
 use Rattle.archetype_store.specs.declared.row_moves.RowMove.{RowMove}
-use Rattle.archetype_store.specs.Storage.{archetypes_of, place_of, AreAlike, AreArchetypes}
+use Rattle.archetype_store.specs.Storage.{archetypes_of, place_of, AreAlike}
 use Rattle.archetype_store.specs.RowMoves.{IsPlanned}
-use Rattle.archetype_store.specs.RowNumbers.{AreRowsKnown}
-use Rattle.archetype_store.specs.Tables.{shape_of, AreOwned, AreAllAlike, IsGrown}
+use Rattle.archetype_store.specs.Tables.{shape_of, AreAllAlike, IsGrown}
 use Rattle.archetype_store.proofs.TableGrowth.{planned_alike}
-use Rattle.archetype_store.proofs.RowNumbers.{known_kept}
-use Rattle.archetype_store.proofs.SingleRowMove.{grown_whole, alike_trans}
+use Rattle.archetype_store.proofs.SingleRowMove.{alike_trans}
 use Rattle.archetype_store.proofs.RowMoves.{planned_rest}
-use Rattle.archetype_store.proofs.TableRoom.{alike_entities}
-use Rattle.archetype_store.proofs.ColumnStandings.{owned_kept, alike_value, value_alike, alike_whole, reached_whole}
+use Rattle.archetype_store.proofs.ColumnStandings.{alike_value, value_alike}
 
 -- what is planned doesn't ask for rooms
 pub planned_shapes : (T T' : List TableValue) (P : List (Option EntityLocation)) (ms : List RowMove) → map shape_of T' ≡ map shape_of T → AllByRecursion (IsPlanned T P) ms → AllByRecursion (IsPlanned T' P) ms
@@ -22,14 +19,5 @@ planned_shapes T T' P ms shapes h = each-weaker (IsPlanned T P) (IsPlanned T' P)
 
 module _ (T T1 T2 : List TableValue) (P P1 : List (Option EntityLocation)) (grown : IsGrown T T1) (same : (i : ℕ) → place_of P1 i ≡ place_of P i)
     (shapes : map shape_of T2 ≡ map shape_of T1) (alike : AreAllAlike T1 T2) where
-  pub ready_whole : AreArchetypes T P → AreArchetypes T2 P1
-  ready_whole h = alike_whole T1 T2 P1 false false alike (grown_whole T T1 P1 grown (reached_whole T P P1 same h))
-
-  pub ready_known : (N : List ℕ) → AreRowsKnown T1 P1 N → AreRowsKnown T2 P1 N
-  ready_known N h = known_kept T1 T2 P1 N (alike_entities T1 T2 alike) h
-
-  pub ready_owned : AreOwned T → AreOwned T2
-  ready_owned h = owned_kept T1 T2 shapes (grown.owned h)
-
   pub ready_rows : AreAlike (archetypes_of T P) (archetypes_of T2 P1)
   ready_rows = alike_trans (archetypes_of T P) (archetypes_of T1 P1) (archetypes_of T2 P1) (planned_alike T T1 P P1 grown same) (value_alike (archetypes_of T1 P1) (archetypes_of T2 P1) (alike_value T1 T2 P1 alike))

@@ -2,29 +2,20 @@
 use Rattle.std.proofs.Common.{◌≡◌, ℕ, zero, suc, ◌+◌, ◌<◌, false, ◌==◌, List, [], ◌∷◌, ◌++◌, length, get_or, take, drop, map, Option, sym, ap, subst, ◌∙◌, arith}
 use Rattle.std.proofs.lemmas.List.{take_more, drop_more, get_or-map, length-map}
 use Rattle.std.specs.List.{AllByRecursion}
-use Rattle.model.proofs.lists.Each.{each-at}
 use Rattle.column_store.specs.Table.{TableValue}
 use Rattle.archetype_store.specs.declared.change.EntityChange.{EntityChange}
 use Rattle.archetype_store.specs.declared.locations.EntityLocation.{EntityLocation}
 use Rattle.archetype_store.specs.declared.row_moves.RowMove.{RowMove}
 use Rattle.archetype_store.specs.Changes.{AreOfOtherIndices}
 use Rattle.archetype_store.specs.RowMoves.{change_of, HaveRoom, HasLeft, IsPlanned}
-use Rattle.archetype_store.proofs.RowMoves.{index_flipped, map_drop}
+use Rattle.archetype_store.proofs.BookChanges.{before-other}
+use Rattle.archetype_store.proofs.RowMoves.{map_drop}
 
 others_later : (cs : List EntityChange) (n : ℕ) (d : EntityChange) → n < length cs → AreOfOtherIndices cs →
     AllByRecursion (λ (x : EntityChange). (x.entity.index == (get_or cs n d).entity.index) ≡ false) (drop (suc n) cs)
 others_later [] n d l h = absurd (omega arith)
 others_later (c ∷ cs) zero d l h = h.0
 others_later (c ∷ cs) (suc n) d l h = others_later cs n d (omega arith) h.1
-
-others_earlier : (cs : List EntityChange) (n : ℕ) (d : EntityChange) → n < length cs → AreOfOtherIndices cs →
-    AllByRecursion (λ (x : EntityChange). (x.entity.index == (get_or cs n d).entity.index) ≡ false) (take n cs)
-others_earlier [] n d l h = absurd (omega arith)
-others_earlier (c ∷ cs) zero d l h = tt
-others_earlier (c ∷ cs) (suc n) d l h = (
-  index_flipped (get_or cs n d).entity.index c.entity.index (each-at (λ (x : EntityChange). (x.entity.index == c.entity.index) ≡ false) cs n d (omega arith) h.0),
-  others_earlier cs n d (omega arith) h.1,
-)
 
 module _ (rows : List RowMove) (n : ℕ) (m : RowMove) (l : n < length rows) (is : get_or rows n m ≡ m) where
   rest_is : drop n rows ≡ m ∷ drop (n + 1) rows
@@ -44,7 +35,7 @@ module _ (rows : List RowMove) (n : ℕ) (m : RowMove) (l : n < length rows) (is
       (subst (λ (c : EntityChange). AllByRecursion (λ (x : EntityChange). (x.entity.index == c.entity.index) ≡ false) (drop (suc n) (map change_of rows))) change_is (others_later (map change_of rows) n (change_of m) within h))
 
   pub earlier_apart : AreOfOtherIndices (map change_of rows) → AllByRecursion (λ (x : EntityChange). (x.entity.index == m.change.now.entity.index) ≡ false) (take n (map change_of rows))
-  earlier_apart h = subst (λ (c : EntityChange). AllByRecursion (λ (x : EntityChange). (x.entity.index == c.entity.index) ≡ false) (take n (map change_of rows))) change_is (others_earlier (map change_of rows) n (change_of m) within h)
+  earlier_apart h = subst (λ (c : EntityChange). AllByRecursion (λ (x : EntityChange). (x.entity.index == c.entity.index) ≡ false) (take n (map change_of rows))) change_is (before-other (map change_of rows) n (change_of m) within h)
 
   pub planned_here : (T : List TableValue) (P : List (Option EntityLocation)) → AllByRecursion (IsPlanned T P) (drop n rows) → AllByRecursion (IsPlanned T P) (m ∷ drop (n + 1) rows)
   planned_here T P h = subst (AllByRecursion (IsPlanned T P)) rest_is h

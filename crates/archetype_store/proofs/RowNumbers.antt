@@ -1,5 +1,5 @@
 -- The numbers of rows, as rows come, go and stay.
-use Rattle.std.proofs.Common.{◌≡◌, ℕ, zero, suc, ◌+◌, ◌-◌, ◌<◌, ◌≤◌, Bool, true, false, cond, ◌==◌, ◌⊎◌, inl, inr, List, [], ◌∷◌, ◌++◌, length, set, map, option_map, Option, Some, None, is_some, refl, sym, ap, ap₂, subst, ◌∙◌, arith}
+use Rattle.std.proofs.Common.{◌≡◌, ℕ, zero, suc, ◌+◌, ◌-◌, ◌<◌, Bool, true, false, cond, ◌==◌, ◌⊎◌, inl, inr, List, [], ◌∷◌, ◌++◌, length, set, map, option_map, Option, Some, None, is_some, refl, sym, ap, ap₂, subst, ◌∙◌, arith}
 use Rattle.std.specs.Prelude.{slice_get}
 use Rattle.std.specs.List.{AllByRecursion}
 use Rattle.std.proofs.lemmas.Bool.{cases_eq, eqb-true, and_parts}
@@ -61,7 +61,7 @@ get_before [] y i l = absurd (omega arith)
 get_before (x ∷ xs) y zero l = refl
 get_before (x ∷ xs) y (suc i) l = get_before xs y i (omega arith)
 
-none_nowhere : (rows : List TableRow) (e : Entity) → row_of e rows ≡ None → IsNowhere (λ x. is_same x e) (map (λ (row : TableRow). row.entity) rows)
+pub none_nowhere : (rows : List TableRow) (e : Entity) → row_of e rows ≡ None → IsNowhere (λ x. is_same x e) (map (λ (row : TableRow). row.entity) rows)
 none_nowhere [] e h = tt
 none_nowhere (r ∷ rows) e h = let p = head_none (is_same r.entity e) r (row_of e rows) h in (p.0, none_nowhere rows e p.1)
 
@@ -91,15 +91,6 @@ one_kept T T' table h t = go (cases_eq t table)
     go : (t ≡ table) ⊎ (t ≡ table → ⊥) → entities_at T' t ≡ entities_at T t
     go (inl same) = ap (entities_at T') same ∙ h.here ∙ ap (entities_at T) (sym same)
     go (inr other) = h.others t other
-
--- more room for places and numbers
-pub known_reached : (T : List TableValue) (P P' : List (Option EntityLocation)) (N N' : List ℕ) → ((i : ℕ) → place_of P' i ≡ place_of P i) → ((i : ℕ) → number_of_row N' i ≡ number_of_row N i) → length P' ≤ length N' →
-    AreRowsKnown T P N → AreRowsKnown T P' N'
-known_reached T P P' N N' places numbers many h = record {
-  there = λ i p at. ap (entity_in_row T p.table) (numbers i) ∙ h.there i p (sym (places i) ∙ at);
-  apart = h.apart;
-  as_many = many;
-}
 
 module _ (T : List TableValue) (P : List (Option EntityLocation)) (N : List ℕ) (whole : AreArchetypes T P) (known : AreRowsKnown T P N) where
   some_row : (t : TableValue) (o : Option TableRow) (x : Entity) → option_map (λ (row : TableRow). row.entity) o ≡ Some x → is_some (option_map (components_of t.kinds) o) ≡ true

@@ -68,10 +68,6 @@ module _ (T : List TableValue) (P : List (Option EntityLocation)) (e : Entity) (
       let moved = moved_written T T' P e p h at (map component_of ss) gen_there (kinds-components ss ∙ sym kinds) (some_components ss some) now in
       (moved_whole T T' P P e (Some p.table) (map component_of ss) h fits moved, moved_row T T' P P e (Some p.table) (map component_of ss) moved)
 
-  -- its components
-  pub row_read : (ss : List StampedValue) → held_at T p.table e ≡ Some (map component_of ss) → row_in T e.index (place_of P e.index) ≡ map component_of ss
-  row_read ss k = row_is ∙ ap row_or_none k
-
 -- the kinds of the row of an index are those of its table
 pub kinds_at_place : (T : List TableValue) (P : List (Option EntityLocation)) → AreArchetypes T P → (i : ℕ) (p : EntityLocation) → place_of P i ≡ Some p →
     map (λ (c : Component). c.kind) (row_in T i (place_of P i)) ≡ kinds_at T p.table

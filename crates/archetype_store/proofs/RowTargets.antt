@@ -1,6 +1,6 @@
 -- Where a row goes that is moved.
-use Rattle.std.proofs.Common.{◌≡◌, ◌≢◌, ℕ, ◌+◌, ◌≤◌, Bool, true, false, cond, ◌==◌, inl, inr, List, [], ◌∷◌, Option, Some, None, refl, sym, ap, ◌∙◌, arith}
-use Rattle.std.proofs.lemmas.Bool.{cases_eq, eqb-true}
+use Rattle.std.proofs.Common.{◌≡◌, ◌≢◌, ℕ, ◌+◌, ◌≤◌, Bool, true, false, cond, ◌==◌, List, [], ◌∷◌, Option, Some, None, refl, sym, ap, ◌∙◌, arith}
+use Rattle.std.proofs.lemmas.Bool.{eqb-true}
 use Rattle.model.specs.Lists.{is_there, with_at}
 use Rattle.column_store.specs.declared.stamped.StampedValue.{StampedValue}
 use Rattle.column_store.specs.Table.{TableValue}
@@ -51,12 +51,6 @@ pub others_kept : (P P' : List (Option EntityLocation)) (n : ℕ) (o : Option En
 others_kept P P' n o h i apart = h i ∙ with_at_apart n i o (place_of P) apart
 
 -- ---- rooms
-
-pub rooms_once : (T T' : List TableValue) (table : ℕ) → room_at T' table ≡ room_at T table → ((t : ℕ) → (t ≡ table → ⊥) → room_at T' t ≡ room_at T t) → (t : ℕ) → room_at T' t ≡ room_at T t
-rooms_once T T' table here others t = elim (cases_eq t table) [
-  | inl same ↦ ap (room_at T') same ∙ here ∙ sym (ap (room_at T) same)
-  | inr apart ↦ others t apart
-]
 
 pub rooms_same : (T T' : List TableValue) (b : ℕ → Bool) → ((t : ℕ) → room_at T' t ≡ room_at T t) → (t : ℕ) → room_at T t ≤ one_if (b t) + room_at T' t
 rooms_same T T' b h t = let e = h t in omega (arith, e)

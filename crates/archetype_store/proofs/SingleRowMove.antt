@@ -1,5 +1,5 @@
 -- The moves of one row: laid in another table, written where it is, taken away.
-use Rattle.std.proofs.Common.{◌≡◌, ℕ, ◌<◌, Bool, true, false, cond, ◌==◌, ◌⊎◌, inl, inr, List, [], length, set, map, Option, Some, None, Result, Ok, Err, OnOk, OnErr, is_err, is_some, refl, sym, ap, subst, ◌∙◌, true≢false}
+use Rattle.std.proofs.Common.{◌≡◌, ℕ, ◌<◌, Bool, true, false, cond, ◌==◌, ◌⊎◌, inl, inr, List, [], length, set, map, Option, Some, None, is_some, refl, sym, ap, subst, ◌∙◌}
 use Rattle.std.proofs.lemmas.Bool.{cases_eq}
 use Rattle.std.proofs.lemmas.List.{get_or-set_same, get_or-set_other}
 use Rattle.model.specs.Lists.{with_at, is_there}
@@ -153,13 +153,3 @@ reached_alike T P P' same = record {
   holders = λ i. holder_seen T P' i ∙ ap holder_in (same i) ∙ sym (holder_seen T P i);
   layout = refl;
 }
-
--- what holds anyway holds of an error
-pub on_err_from : {A E : Type 0} (r : Result A E) (Q : Type 0) → Q → OnErr r Q
-on_err_from (Ok a) Q q = tt
-on_err_from (Err e) Q q = q
-
--- what holds of a success, where it is one
-pub on_ok_holds : {A E : Type 0} (r : Result A E) (Q : Type 0) → is_err r ≡ false → OnOk r Q → Q
-on_ok_holds (Ok a) Q fine q = q
-on_ok_holds (Err e) Q fine q = absurd (true≢false fine)

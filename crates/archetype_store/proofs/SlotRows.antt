@@ -11,7 +11,7 @@ use Rattle.entity_table.specs.Rows.{with_rows}
 use Rattle.entity_table.proofs.Releases.{granted-lives}
 use Rattle.entity_table.proofs.WithRows.{length-with_rows, row_at-with_rows}
 use Rattle.archetype_store.specs.Storage.{StorageValue, row_of, holder_of, IsHolder}
-use Rattle.archetype_store.specs.Entities.{HasRows}
+use Rattle.archetype_store.specs.Inside.{HasRows}
 
 -- ---- who lives
 

@@ -1,17 +1,13 @@
 -- Copies of tables whose columns are at home: they hold the same, and their columns are theirs alone.
-use Rattle.std.proofs.Common.{◌≡◌, ℕ, Bool, true, false, List, [], ◌∷◌, map, Option, refl, sym, ap, ap₂, subst, ◌∙◌}
+use Rattle.std.proofs.Common.{◌≡◌, ℕ, Bool, true, false, List, [], ◌∷◌, map, Option, refl, sym, ap, ap₂, subst}
 use Rattle.std.proofs.lemmas.Bool.{and_parts}
 use Rattle.std.specs.List.{list_all}
 use Rattle.column_store.specs.Table.{Standing, TableValue, is_home, owned, IsAlike}
 use Rattle.column_store.specs.Table.Standing.{Owned}
 use Rattle.archetype_store.specs.declared.locations.EntityLocation.{EntityLocation}
-use Rattle.archetype_store.specs.declared.table_index.TableIndex.{TableIndex}
-use Rattle.archetype_store.specs.TableIndex.{IsIndexed}
 use Rattle.archetype_store.specs.Tables.{AreHome, AreOwned, AreAllAlike}
-use Rattle.archetype_store.specs.Storage.{archetypes_of}
-use Rattle.archetype_store.proofs.ColumnStandings.{owned_all, alike_value, alike_whole, owned_stored}
-use Rattle.archetype_store.proofs.TableIndex.{alike_indexed}
-use Rattle.archetype_store.specs.Whole.{IsWhole}
+use Rattle.archetype_store.proofs.ColumnStandings.{owned_all, alike_whole, owned_stored}
+use Rattle.archetype_store.specs.Rows.{AreKept}
 use Rattle.archetype_store.proofs.RowNumbers.{known_kept}
 use Rattle.archetype_store.proofs.TableRoom.{alike_entities}
 
@@ -31,17 +27,12 @@ copies_owned [] = tt
 copies_owned (t ∷ ts) = (owned_all t.standings, copies_owned ts)
 
 module _ (T U : List TableValue) (P Q : List (Option EntityLocation)) (tables : U ≡ map owned T) (places : Q ≡ P) (home : AreHome T) where
-  alike : AreAllAlike T U
-  alike = subst (AreAllAlike T) (sym tables) (copies_alike T home)
-
-  -- what they hold is the same
-  pub copied_value : archetypes_of U Q ≡ archetypes_of T P
-  copied_value = ap (archetypes_of U) places ∙ alike_value T U P alike
+  pub copied_alike : AreAllAlike T U
+  copied_alike = subst (AreAllAlike T) (sym tables) (copies_alike T home)
 
   -- they are as whole, and no column is read elsewhere
-  pub copied_whole : (N M : List ℕ) → M ≡ N → (i j : TableIndex) (s : Bool) → ((V : List TableValue) → IsIndexed V i → IsIndexed V j) → IsWhole T i P N s → IsWhole U j Q M false
-  copied_whole N M numbers i j s index h = subst (λ R. IsWhole U j R M false) (sym places) (subst (λ ns. IsWhole U j P ns false) (sym numbers) (record {
-    stored = owned_stored U P false (alike_whole T U P s s alike h.stored.whole) (subst AreOwned (sym tables) (copies_owned T));
-    indexed = index U (alike_indexed T U i alike h.indexed);
-    known = known_kept T U P N (alike_entities T U alike) h.known;
+  pub copied_kept : (N M : List ℕ) → M ≡ N → (s : Bool) → AreKept T P N s → AreKept U Q M false
+  copied_kept N M numbers s h = subst (λ R. AreKept U R M false) (sym places) (subst (λ ns. AreKept U P ns false) (sym numbers) (record {
+    stored = owned_stored U P false (alike_whole T U P s s copied_alike h.stored.whole) (subst AreOwned (sym tables) (copies_owned T));
+    known = known_kept T U P N (alike_entities T U copied_alike) h.known;
   }))

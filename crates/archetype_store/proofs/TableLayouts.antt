@@ -14,7 +14,7 @@ use Rattle.archetype_store.specs.declared.locations.EntityLocation.{EntityLocati
 use Rattle.archetype_store.specs.Layout.{Archetype, archetype_of, layout_of, archetype_at, is_in_archetype, IsShape, IsArchetype, AreOfOtherKinds, IsLayoutOf}
 use Rattle.archetype_store.specs.Tables.{table_at, kinds_at, held_at, AreShaped, AreUnlike}
 use Rattle.archetype_store.specs.Storage.{StorageValue, archetypes_of, row_of, holder_of, place_of, row_in, holder_in, is_place, IsHolder, AreArchetypes, IsLaidOut}
-use Rattle.archetype_store.specs.Entities.{HasRows}
+use Rattle.archetype_store.specs.Inside.{HasRows}
 use Rattle.archetype_store.proofs.PlacesAfterRowChange.{row_seen, holder_seen, somewhere}
 use Rattle.archetype_store.proofs.RowSteps.{kinds_at_place}
 use Rattle.archetype_store.proofs.SlotRows.{holder_lives, row_at_slots}

@@ -26,7 +26,7 @@ use Rattle.column_store.proofs.Swapped.{length-swap_removed, map-swap_removed, g
 use Rattle.column_store.proofs.TheirComponents.{cells_are_theirs}
 use Rattle.archetype_store.specs.Row.{component_of}
 use Rattle.archetype_store.specs.Layout.{IsShape, archetype_of, layout_of}
-use Rattle.archetype_store.specs.Tables.{table_at, kinds_at, held_in, held_at, room_at, entities_at, entity_in_row, row_or_none, shape_of, AreShaped, AreUnlike, AreOwned, IsHeldNow, IsGrown, IsOneTable}
+use Rattle.archetype_store.specs.Tables.{table_at, kinds_at, held_in, held_at, room_at, entities_at, row_or_none, shape_of, AreShaped, AreUnlike, AreOwned, IsHeldNow, IsGrown, IsOneTable}
 use Rattle.model.proofs.lists.Places.{get-there, each-push}
 
 -- ---- rows of one table
@@ -210,16 +210,6 @@ one_table tables table new es within is = record {
 
 pub room_here : (tables : List TableValue) (table : ℕ) (new : TableValue) → table < length tables → room_at (set tables table new) table ≡ new.room
 room_here tables table new within = ap (λ (u : TableValue). u.room) (get_or-set_same tables table new (empty_table []) within)
-
--- a table with a row is there
-pub in_row_within : (tables : List TableValue) (t row : ℕ) → is_some (entity_in_row tables t row) ≡ true → t < length tables
-in_row_within [] t row h = absurd (cc)
-in_row_within (u ∷ us) zero row h = omega arith
-in_row_within (u ∷ us) (suc t) row h = let l = in_row_within us t row h in omega arith
-
-pub some_is : {A : Type 0} (o : Option A) → is_some o ≡ true → (x : A) × (o ≡ Some x)
-some_is None h = absurd (cc)
-some_is (Some x) h = (x, refl)
 
 -- a table that holds an entity is there
 pub held_within : (tables : List TableValue) (t : ℕ) (e : Entity) → is_some (held_at tables t e) ≡ true → t < length tables

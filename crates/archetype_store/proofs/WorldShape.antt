@@ -33,11 +33,6 @@ outcome_of (Ok x) fault true P Q p q h = inl (refl, p)
 outcome_of (Ok x) fault false P Q p q h = let e = h refl in cc
 outcome_of (Err e) fault test P Q p q h = inr q
 
--- what one has done that refuses only for a failed allocation
-pub outcome_either : {T E : Type 0} (r : Result T E) (P Q : Type 0) → OnOk r P → OnErr r Q → P ⊎ Q
-outcome_either (Ok x) P Q p q = inl p
-outcome_either (Err e) P Q p q = inr q
-
 -- ---- worlds
 
 -- a world with other slots of the shape

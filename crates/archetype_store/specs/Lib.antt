@@ -3,9 +3,9 @@ pub mod Layout
 pub mod Tables
 pub mod Storage
 pub mod RowNumbers
-pub mod Whole
+pub mod Rows
 pub mod Slot
-pub mod Entities
+pub mod Inside
 pub mod Places
 pub mod LivingSets
 pub mod Resources

@@ -8,6 +8,7 @@ use Rattle.archetype_store.specs.declared.change.EntityChange.{EntityChange}
 use Rattle.archetype_store.specs.declared.locations.EntityLocation.{EntityLocation}
 use Rattle.archetype_store.specs.declared.row_moves.RowMove.{RowMove}
 use Rattle.archetype_store.specs.Changes.{row_left}
+use Rattle.archetype_store.specs.Rows.{RowsValue, joined, left, renewed}
 use Rattle.archetype_store.specs.Tables.{kinds_at, room_at, is_in}
 use Rattle.archetype_store.specs.Storage.{StorageValue, place_of, holder_in, row_of, holder_of, row_changed, holder_changed, IsHolder}
 
@@ -70,6 +71,19 @@ pub record IsPlanned (tables : List TableValue) (places : List (Option EntityLoc
   pub holder : IsHolder m.change.now.entity.generation (holder_in (place_of places m.change.now.entity.index))
   pub to : (t : ℕ) → m.to ≡ Some t → IsTarget tables (components_moved m) t
   pub none : m.to ≡ None → components_moved m ≡ []
+
+-- what a row that goes elsewhere leaves
+abbrev pub gone : RowsValue → RowMove → RowsValue
+gone v m = cond (stays_in v.places m) v (left v m.change.now.entity)
+
+-- a row that has left has come where it goes: nowhere, or into another table, or it has other components where it is
+abbrev pub come_to : RowsValue → RowMove → Option ℕ → Option ℕ → RowsValue
+come_to v m None newly = v
+come_to v m (Some to) None = renewed v m.change.now.entity to (components_moved m)
+come_to v m (Some to) (Some newly) = joined v m.change.now.entity to (components_moved m)
+
+abbrev pub come : RowsValue → RowMove → RowsValue
+come v m = come_to v m m.to (arrives_in v.places m)
 
 -- rows that are alike but for one index
 pub record AreAlikeBut (old : StorageValue) (index : ℕ) (new : StorageValue) : Type 0 where

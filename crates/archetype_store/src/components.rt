@@ -1,8 +1,8 @@
 // The components of a row as a list, in strictly rising kinds.
 
-ghost use Rattle.std.specs.Prelude.{◌≡◌, ◌==◌, nat_le, suc, length, map, position, None, IsSome, OnOk, OnErr};
+ghost use Rattle.std.specs.Prelude.{◌≡◌, ◌==◌, nat_le, map, position, None, OnOk};
 ghost use Rattle.kinds.specs.Value.{value_number, value_words};
-ghost use Rattle.model.specs.state.Rows.{cell_at, insert_component, remove_component};
+ghost use Rattle.model.specs.state.Rows.{insert_component, remove_component};
 ghost use Rattle.archetype_store.specs.Row.{component_of, added_at};
 
 use change_ticks::{Stamp, Tick};

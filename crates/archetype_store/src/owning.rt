@@ -1,8 +1,8 @@
 // Columns that are read elsewhere too, taken for their tables alone before rows change, and copies of tables, whose columns are theirs alone.
 
-ghost use Rattle.std.specs.Prelude.{◌≡◌, false, map, IfOk, OnOk};
+ghost use Rattle.std.specs.Prelude.{◌≡◌, map, IfOk, OnOk};
 ghost use Rattle.column_store.specs.Table.{owned};
-ghost use Rattle.archetype_store.specs.Tables.{AreHome, AreOwned, AreUnshared, AreAllAlike};
+ghost use Rattle.archetype_store.specs.Tables.{AreHome, AreOwned, AreAllAlike};
 
 use column_store::Table;
 use std::alloc::{AllocError, Global};
@@ -33,27 +33,11 @@ fn own_each(tables: &mut [Table], alloc: Global) -> Result<(), AllocError>
 }
 
 // The same of a vector of tables.
-fn own_tables(tables: &mut Vec<Table>) -> Result<(), AllocError>
+pub(crate) fn own_tables(tables: &mut Vec<Table>) -> Result<(), AllocError>
     requires { AreHome tables.old.items }
     ensures ok { OnOk result (AreOwned tables.new.items) }
     ensures alike { AreAllAlike tables.old.items tables.new.items }
 {
     let alloc = *tables.allocator();
     own_each(tables, alloc)
-}
-
-// Takes all columns for the tables alone, where it is noted that some are read elsewhere too.
-pub(crate) fn own_all(tables: &mut Vec<Table>, shared: &mut bool) -> Result<(), AllocError>
-    requires home { AreHome tables.old.items }
-    requires unshared { shared.old ≡ false → AreUnshared tables.old.items }
-    ensures ok { OnOk result (AreOwned tables.new.items) }
-    ensures alike { AreAllAlike tables.old.items tables.new.items }
-    ensures unshared { shared.new ≡ false → AreUnshared tables.new.items }
-{
-    if !*shared {
-        return Ok(());
-    }
-    own_tables(tables)?;
-    *shared = false;
-    Ok(())
 }

@@ -4,10 +4,18 @@ ghost use Rattle.std.specs.Prelude.{◌≡◌, true};
 ghost use Rattle.std.specs.List.{AllByRecursion};
 ghost use Rattle.model.specs.Lists.{update_at};
 ghost use Rattle.model.specs.state.Commands.{is_alive};
+ghost use Rattle.entity_table.specs.Ids.{IsBook};
 ghost use Rattle.archetype_store.specs.Changes.{living_slot, settled_slot, book_changed, AreOfOtherIndices, IsHeldBy};
 
 use crate::change::{EntityChange, Fate};
 use entity_table::EntityTable;
+
+// It is a book: who doesn't live has no row.
+pub(crate) fn prove_book(book: &EntityTable)
+    ensures { IsBook book.now }
+{
+    book.len();
+}
 
 // An entity that lives, or is granted, lives.
 fn wake(book: &mut EntityTable, change: &EntityChange)
@@ -15,8 +23,7 @@ fn wake(book: &mut EntityTable, change: &EntityChange)
     ensures woken { book.new ≡ update_at change.now.entity.index living_slot book.old }
     ensures lives { is_alive book.new change.now.entity ≡ true }
 {
-    // Proves that who doesn't live has no row.
-    let _count = book.len();
+    prove_book(book);
     if !book.lives(change.entity) {
         book.spawn_at(change.entity);
     }

@@ -1,6 +1,6 @@
 // Where tables are found: by the word of their kinds, and by the number of their archetype.
 
-ghost use Rattle.std.specs.Prelude.{◌≡◌, ◌≤◌, ◌++◌, ◌∷◌, ◌||◌, ◌==◌, ℕ, List, [], length, map, get_or, None, vec_capacity, IfOk, IfSome, IsTrue, MatchOption, OnOk, OnErr};
+ghost use Rattle.std.specs.Prelude.{◌≡◌, ◌≤◌, ◌++◌, ◌∷◌, ◌||◌, ◌==◌, ℕ, List, [], length, map, get_or, None, IfOk, IfSome, IsTrue, MatchOption, OnOk, OnErr};
 ghost use Rattle.kinds.specs.Kind.{kind_number};
 ghost use Rattle.column_store.specs.Cells.{stamped_number};
 ghost use Rattle.column_store.specs.Table.{TableValue};
@@ -8,7 +8,7 @@ ghost use Rattle.archetype_store.specs.Layout.{layout_of};
 ghost use Rattle.archetype_store.specs.Shapes.{shape_number, fitting_from, fitting_tables, numbers_from};
 ghost use Rattle.archetype_store.specs.Tables.{IsTableOf};
 ghost use Rattle.archetype_store.specs.TableWords.{told_table};
-ghost use Rattle.archetype_store.specs.TableIndex.{has_bit, peopled_from, IsWord, IsFound, IsIndexed};
+ghost use Rattle.archetype_store.specs.TableIndex.{has_bit, IsWord, IsFound, IsIndexed};
 
 use crate::kind_sets::number_of;
 use crate::shapes::{

@@ -1,5 +1,5 @@
 -- Rows as columns: what a change of the columns is of the rows.
-use Rattle.std.proofs.Common.{◌≡◌, ℕ, zero, suc, ◌+◌, ◌-◌, ◌<◌, ℤ, ◌⊎◌, inl, inr, List, [], ◌∷◌, ◌++◌, length, get_or, map, option_map, option_and_then, Option, Some, refl, sym, ap, ap₂, ◌∙◌, arith}
+use Rattle.std.proofs.Common.{◌≡◌, ℕ, zero, suc, ◌+◌, ◌-◌, ◌<◌, ◌⊎◌, inl, inr, List, [], ◌∷◌, ◌++◌, length, get_or, map, option_map, option_and_then, Option, Some, refl, sym, ap, ap₂, ◌∙◌, arith}
 use Rattle.std.specs.List.{AllByRecursion}
 use Rattle.std.specs.Prelude.{slice_get}
 use Rattle.std.proofs.lemmas.Bool.{cases_eq}
@@ -8,13 +8,12 @@ use Rattle.std.proofs.lemmas.Simd.{map-map}
 use Rattle.model.specs.Lists.{tail_of, update_at}
 use Rattle.model.specs.state.State.{Cell}
 use Rattle.model.specs.declared.entities.Entity.{Entity}
-use Rattle.column_store.specs.Cells.{changed_cell}
 use Rattle.column_store.specs.Column.{ColumnCells}
 use Rattle.column_store.specs.Swapped.{swap_removed}
 use Rattle.column_store.specs.Table.{Standing, ColumnSlotValue, TableRow}
 use Rattle.column_store.specs.Table.Standing.{Owned}
-use Rattle.column_store.specs.Inside.{cell_at, tail_in, seen_column, write_in, swap_out_in, push_all, replace_all, rows_of, IsOfLength}
-use Rattle.column_store.proofs.Lists.{map-update_at, map-update_at_same, get-map}
+use Rattle.column_store.specs.Inside.{cell_at, tail_in, seen_column, swap_out_in, push_all, replace_all, rows_of, IsOfLength}
+use Rattle.column_store.proofs.Lists.{map-update_at, get-map}
 use Rattle.column_store.proofs.Swapped.{length-swap_removed, get_or-swap_here, get_or-swap_other, get-swap_here, get-swap_other}
 
 -- a row with f applied to the cell of a column
@@ -71,11 +70,7 @@ pub entities-rows_of : (es : List Entity) (ps : List ColumnSlotValue) → map (�
 entities-rows_of [] ps = refl
 entities-rows_of (e ∷ es) ps = ap (λ xs. e ∷ xs) (entities-rows_of es (map tail_in ps))
 
--- ---- a write of one cell
-
-head_updated : (f : Cell → Cell) (cells : List Cell) → slice_get (update_at 0 f cells) 0 ≡ option_map f (slice_get cells 0)
-head_updated f [] = refl
-head_updated f (x ∷ xs) = refl
+-- ---- all cells of a row replaced
 
 head_kept : (i : ℕ) (f : Cell → Cell) (cells : List Cell) → slice_get (update_at (suc i) f cells) 0 ≡ slice_get cells 0
 head_kept i f [] = refl
@@ -88,32 +83,6 @@ tail_kept f (x ∷ xs) = refl
 tail_updated : (i : ℕ) (f : Cell → Cell) (cells : List Cell) → tail_of (update_at (suc i) f cells) ≡ update_at i f (tail_of cells)
 tail_updated i f [] = refl
 tail_updated i f (x ∷ xs) = refl
-
-module _ (w : List ℤ) (t : ℕ) where
-  write_head : (p : ColumnSlotValue) → cell_at 0 (write_in 0 w t p) ≡ option_map (changed_cell w t) (cell_at 0 p)
-  write_head p = head_updated (changed_cell w t) p.column.cells
-
-  write_other : (i : ℕ) (p : ColumnSlotValue) → cell_at 0 (write_in (suc i) w t p) ≡ cell_at 0 p
-  write_other i p = head_kept i (changed_cell w t) p.column.cells
-
-  write_before : (p : ColumnSlotValue) → tail_in (write_in 0 w t p) ≡ tail_in p
-  write_before p = ap (slot p.standing p.column.kind p.column.room) (tail_kept (changed_cell w t) p.column.cells)
-
-  write_behind : (i : ℕ) (p : ColumnSlotValue) → tail_in (write_in (suc i) w t p) ≡ write_in i w t (tail_in p)
-  write_behind i p = ap (slot p.standing p.column.kind p.column.room) (tail_updated i (changed_cell w t) p.column.cells)
-
-  pub rows_of-write : (es : List Entity) (ps : List ColumnSlotValue) (i j : ℕ) →
-      rows_of es (update_at j (write_in i w t) ps) ≡ update_at i (with_cell j (option_map (changed_cell w t))) (rows_of es ps)
-  rows_of-write [] ps i j = refl
-  rows_of-write (e ∷ es) ps zero j = row_cons e _ _ _ _
-      (map-update_at (cell_at 0) (write_in 0 w t) (option_map (changed_cell w t)) write_head j ps)
-      (ap (rows_of es) (map-update_at_same tail_in (write_in 0 w t) write_before j ps))
-  rows_of-write (e ∷ es) ps (suc i) j = row_cons e _ _ _ _
-      (map-update_at_same (cell_at 0) (write_in (suc i) w t) (write_other i) j ps)
-      (ap (rows_of es) (map-update_at tail_in (write_in (suc i) w t) (write_in i w t) (write_behind i) j ps)
-      ∙ rows_of-write es (map tail_in ps) i j)
-
--- ---- all cells of a row replaced
 
 renewed_heads : (n : ℕ) (ps : List ColumnSlotValue) (cs : List Cell) → length ps ≡ length cs → AllByRecursion (IsOfLength (suc n)) ps → map (cell_at 0) (replace_all 0 ps cs) ≡ map (λ c. Some c) cs
 renewed_heads n [] [] l h = refl

@@ -9,13 +9,13 @@ use Rattle.model.proofs.lists.Each.{each-at}
 use Rattle.model.specs.declared.entities.Entity.{Entity}
 use Rattle.column_store.specs.Column.{ColumnCells}
 use Rattle.column_store.specs.Places.{IsPlace}
-use Rattle.column_store.specs.Inside.{standing_at, seen_column, seen_slot, room_of, write_in, table_of, IsOfLength, IsTable, IsKindPlace, IsKindPlaced, IsNoKind}
-use Rattle.column_store.specs.Table.{Standing, ColumnSlotValue, is_home, is_not_away, lent, shared, IsHome, IsAlike}
+use Rattle.column_store.specs.Inside.{standing_at, seen_column, seen_slot, table_of, IsOfLength, IsTable, IsKindPlace, IsKindPlaced, IsNoKind}
+use Rattle.column_store.specs.Table.{Standing, ColumnSlotValue, is_home, lent, shared, IsHome, IsAlike}
 use Rattle.column_store.specs.Table.Standing.{Shared, Away}
-use Rattle.column_store.proofs.Lists.{map-update_at_same, set-changed, set-same}
+use Rattle.column_store.proofs.Lists.{set-changed, set-same}
 use Rattle.column_store.proofs.Rows.{place_from_position, nowhere_from_position}
-use Rattle.column_store.proofs.Tables.{place-within, length-of_kinds, cell_in-place, cell_in-no_kind, table-write, table-seen, standing-place, standing-nowhere, kind_cells-place, table-move, table-home, table-alike}
-use Rattle.column_store.proofs.Kept.{kind-place, kept-write, kept-move, kept-home, kept-columns}
+use Rattle.column_store.proofs.Tables.{place-within, length-of_kinds, cell_in-place, cell_in-no_kind, table-seen, standing-place, standing-nowhere, kind_cells-place, table-move, table-home, table-alike}
+use Rattle.column_store.proofs.Kept.{kind-place, kept-move, kept-home, kept-columns}
 use Rattle.model.proofs.lists.Places.{get-there}
 
 -- ---- a column
@@ -29,9 +29,6 @@ kind-found ns k j of es ps h =
       within = within;
       has_rows = λ i d l. (let long : length (get_or ps j d).column.cells ≡ length es = each-at (IsOfLength (length es)) ps j d within h.of_length in omega arith);
       cell = λ i d l. cell_in-place ns es ps k i j (get_or ps j d) l of same (get-there ps j d within);
-      written = λ i w t. table-write ns es ps k i j w t of;
-      written_table = λ i w t. kept-write ns es ps i j w t h;
-      written_rooms = λ i w t. map-update_at_same room_of (write_in i w t) (λ p. refl) j ps;
       standing = λ d. standing-place ns es ps k j (get_or ps j d) of same (get-there ps j d within);
       of_kind = λ d. kind-place k j ns ps (get_or ps j d) of h.of_kinds (get-there ps j d within);
       cells = λ d. sym (kind_cells-place ns es ps k j (get_or ps j d) of same (get-there ps j d within)
@@ -54,41 +51,29 @@ kind-answer ks n (Some j) h = kind-found (map kind_number ks) n j (place_from_po
 pub home_found : (s : Standing) (o : Option Standing) → o ≡ Some s → IsHome o → is_home s ≡ true
 home_found s o at h = let e : option_map is_home (Some s) ≡ Some true = subst IsHome at h in cc
 
-pub not_away_found : (s : Standing) (o : Option Standing) → o ≡ Some s → is_not_away o ≡ true → is_home s ≡ true
-not_away_found s o at h = sym (ap is_not_away at) ∙ h
-
 -- one that isn't there isn't at home
 pub home_there : (o : Option Standing) → o ≡ None → IsHome o → ⊥
 home_there o none h = let e : option_map is_home None ≡ Some true = subst IsHome none h in cc
 
 -- ---- a slot that was changed
 
-set_kept : {A E : Type 0} (r : Result A E) (ps : List ColumnSlotValue) (j : ℕ) (d q : ColumnSlotValue) → j < length ps → OnErr r (q ≡ get_or ps j d) → OnErr r (set ps j q ≡ ps)
-set_kept (Ok a) ps j d q l h = tt
-set_kept (Err e) ps j d q l h = ap (set ps j) h ∙ set-same ps j d l
-
 -- a slot in place of one that is seen as another
 seen-set : (ps : List ColumnSlotValue) (j : ℕ) (q p : ColumnSlotValue) → seen_slot q ≡ seen_slot p → map seen_slot (set ps j q) ≡ map seen_slot (set ps j p)
 seen-set ps j q p h = map-set seen_slot ps j q ∙ ap (set (map seen_slot ps) j) h ∙ sym (map-set seen_slot ps j p)
 
 module _ (ns : List ℕ) (es : List Entity) (ps : List ColumnSlotValue) (k j : ℕ) (at : IsKindPlace ns es ps k j) (d q : ColumnSlotValue) where
-  module _ {A E : Type 0} where
-    -- a column that left
-    pub lent_there : (r : Result A E) → OnOk r (seen_slot q ≡ standing_at Away (seen_slot (get_or ps j d))) → OnOk r (table_of ns es (set ps j q) ≡ lent (table_of ns es ps) k)
-    lent_there (Ok a) h =
-        table-seen ns es (set ps j (standing_at Away (get_or ps j d))) (set ps j q) (seen-set ps j q (standing_at Away (get_or ps j d)) h)
-        ∙ ap (table_of ns es) (set-changed (standing_at Away) ps j d (standing_at Away (get_or ps j d)) at.within refl) ∙ at.moves Away
-    lent_there (Err e) h = tt
+  -- as it was
+  pub slots_same : q ≡ get_or ps j d → set ps j q ≡ ps
+  slots_same h = ap (set ps j) h ∙ set-same ps j d at.within
 
-    pub lent_err : (r : Result A E) → OnErr r (q ≡ get_or ps j d) → OnErr r (set ps j q ≡ ps)
-    lent_err r h = set_kept r ps j d q at.within h
+  -- a column that left
+  pub lent_table : seen_slot q ≡ standing_at Away (seen_slot (get_or ps j d)) → table_of ns es (set ps j q) ≡ lent (table_of ns es ps) k
+  lent_table h =
+      table-seen ns es (set ps j (standing_at Away (get_or ps j d))) (set ps j q) (seen-set ps j q (standing_at Away (get_or ps j d)) h)
+      ∙ ap (table_of ns es) (set-changed (standing_at Away) ps j d (standing_at Away (get_or ps j d)) at.within refl) ∙ at.moves Away
 
-    pub lent_kept : (r : Result A E) → OnOk r (seen_slot q ≡ standing_at Away (seen_slot (get_or ps j d))) → OnErr r (q ≡ get_or ps j d) → IsTable ns es ps → IsTable ns es (set ps j q)
-    lent_kept r h e table = kept-columns ns es ps (set ps j q) (map-set_same seen_column ps j q d (column_kept r h e)) table
-      where
-        column_kept : (r : Result A E) → OnOk r (seen_slot q ≡ standing_at Away (seen_slot (get_or ps j d))) → OnErr r (q ≡ get_or ps j d) → seen_column q ≡ seen_column (get_or ps j d)
-        column_kept (Ok a) h k = ap (λ (x : ColumnSlotValue). x.column) h
-        column_kept (Err e) h k = ap seen_column k
+  pub lent_kept : seen_slot q ≡ standing_at Away (seen_slot (get_or ps j d)) → IsTable ns es ps → IsTable ns es (set ps j q)
+  lent_kept h table = kept-columns ns es ps (set ps j q) (map-set_same seen_column ps j q d (ap (λ (x : ColumnSlotValue). x.column) h)) table
 
   -- one that is read elsewhere too
   pub shared_table : q ≡ standing_at Shared (get_or ps j d) → table_of ns es (set ps j q) ≡ shared (table_of ns es ps) k
@@ -102,7 +87,7 @@ module _ (ns : List ℕ) (es : List Entity) (ps : List ColumnSlotValue) (k j : �
 
     pub shared_err : (r : Result A E) → OnErr r ((q ≡ get_or ps j d) ⊎ (q ≡ standing_at Shared (get_or ps j d))) → OnErr r ((set ps j q ≡ ps) ⊎ (table_of ns es (set ps j q) ≡ shared (table_of ns es ps) k))
     shared_err (Ok a) h = tt
-    shared_err (Err e) h = ⊎_elim (λ same. inl (ap (set ps j) same ∙ set-same ps j d at.within)) (λ other. inr (shared_table other)) h
+    shared_err (Err e) h = ⊎_elim (λ same. inl (slots_same same)) (λ other. inr (shared_table other)) h
 
     -- the column stays, and stays at home
     pub shared_column : (r : Result A E) → OnOk r (q ≡ standing_at Shared (get_or ps j d)) → OnErr r ((q ≡ get_or ps j d) ⊎ (q ≡ standing_at Shared (get_or ps j d))) → is_home (get_or ps j d).standing ≡ true

@@ -1,5 +1,5 @@
 -- What every table keeps.
-use Rattle.std.proofs.Common.{◌≡◌, ℕ, zero, suc, ◌+◌, ◌-◌, ◌<◌, ◌≤◌, ℤ, ◌==◌, ◌⊎◌, inl, inr, List, [], ◌∷◌, ◌++◌, length, map, Some, refl, sym, ap, ap₂, subst, ◌∙◌, arith}
+use Rattle.std.proofs.Common.{◌≡◌, ℕ, zero, suc, ◌+◌, ◌-◌, ◌<◌, ◌≤◌, ◌==◌, ◌⊎◌, inl, inr, List, [], ◌∷◌, ◌++◌, length, map, Some, refl, sym, ap, ap₂, subst, ◌∙◌, arith}
 use Rattle.std.proofs.lemmas.Bool.{cases_eq}
 use Rattle.std.proofs.lemmas.Bool.Decides.{nat_tests}
 use Rattle.std.proofs.lemmas.List.{length_push}
@@ -12,13 +12,13 @@ use Rattle.model.proofs.lists.Each.{each-weaker, each-map}
 use Rattle.model.specs.state.State.{Cell}
 use Rattle.model.specs.declared.entities.Entity.{Entity}
 use Rattle.column_store.specs.declared.stamped.StampedValue.{StampedValue}
-use Rattle.column_store.specs.Cells.{changed_cell, stamped_number, stamped_cell}
+use Rattle.column_store.specs.Cells.{stamped_number, stamped_cell}
 use Rattle.column_store.specs.Column.{ColumnCells}
 use Rattle.column_store.specs.Order.{is_same, AreApart}
 use Rattle.column_store.specs.Places.{IsPlace, IsNowhere}
 use Rattle.column_store.specs.Swapped.{swap_removed}
 use Rattle.column_store.specs.Table.{Standing, ColumnSlotValue}
-use Rattle.column_store.specs.Inside.{kind_in, standing_at, owned_slot, seen_column, seen_slot, write_in, swap_out_in, push_all, replace_all, HasRoom, IsOfLength, IsOwned, AllTake, AllRenew, AreRoomier, IsTable}
+use Rattle.column_store.specs.Inside.{kind_in, standing_at, owned_slot, seen_column, seen_slot, swap_out_in, push_all, replace_all, HasRoom, IsOfLength, IsOwned, AllTake, AllRenew, AreRoomier, IsTable}
 use Rattle.column_store.proofs.Lists.{map-update_at_same, each-updated}
 use Rattle.column_store.proofs.Swapped.{length-swap_removed, get-swap_here, get-swap_other}
 use Rattle.column_store.proofs.Apart.{get_within, get_push, elsewhere}
@@ -40,16 +40,6 @@ kind-place k j (n ∷ ns) [] p at h e = absurd (cc)
 kind-place k zero (n ∷ ns) (q ∷ ps) p at h e =
     let same : q ≡ p = cc in let number : n ≡ k = grind (arith, nat_tests) in let first : q.column.kind ≡ n = cc in ap (λ (x : ColumnSlotValue). x.column.kind) (sym same) ∙ first ∙ number
 kind-place k (suc j) (n ∷ ns) (q ∷ ps) p at h e = let rest : map kind_in ps ≡ ns = cc in kind-place k j ns ps p at.1 rest e
-
--- ---- a write
-
-pub kept-write : (ns : List ℕ) (es : List Entity) (ps : List ColumnSlotValue) (i j : ℕ) (w : List ℤ) (t : ℕ) → IsTable ns es ps → IsTable ns es (update_at j (write_in i w t) ps)
-kept-write ns es ps i j w t h = record {
-  below = h.below;
-  apart = h.apart;
-  of_kinds = map-update_at_same kind_in (write_in i w t) (λ p. refl) j ps ∙ h.of_kinds;
-  of_length = each-updated (IsOfLength (length es)) (write_in i w t) (λ p l. length-update_at i (changed_cell w t) p.column.cells ∙ l) j ps h.of_length;
-}
 
 -- ---- a column that stands otherwise or comes home
 
@@ -226,7 +216,6 @@ push_all-none (p ∷ ps) (s ∷ ss) h l = absurd (omega arith)
 
 pub apart-swap : (es : List Entity) (i : ℕ) → AreApart es → i < length es → AreApart (swap_removed es i)
 apart-swap es i h l p q x f g =
-    let shorter = length-swap_removed es i l in
     go (cases_eq p i) (cases_eq q i) (get_within (swap_removed es i) p x f) (get_within (swap_removed es i) q x g)
   where
     last : (k : ℕ) → k ≡ i → k + 1 < length es → slice_get (swap_removed es i) k ≡ Some x → slice_get es (length es - 1) ≡ Some x

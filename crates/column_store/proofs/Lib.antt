@@ -7,7 +7,6 @@ pub mod Ordered
 pub mod Rising
 pub mod Numbers
 pub mod Apart
-pub mod Sought
 pub mod Rows
 pub mod Columns
 pub mod Tables

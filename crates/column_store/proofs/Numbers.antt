@@ -7,13 +7,14 @@ use Rattle.std.specs.List.{insert, remove, AllByRecursion}
 use Rattle.std.specs.List.Sorted.{IsPartitionedBy, IsPartitionPoint}
 use Rattle.model.specs.Lists.{has}
 use Rattle.model.specs.declared.entities.Entity.{Entity}
+use Rattle.model.proofs.agreement.Agreement.{get_or-map}
 use Rattle.model.proofs.lists.Each.{each-at, each-weaker}
 use Rattle.column_store.specs.Order.{is_before, is_same, AreRising}
 use Rattle.column_store.specs.Places.{IsNowhere, IsGap}
 use Rattle.column_store.specs.RowOrder.{entity_at, numbers_from, IsOrderOf}
 use Rattle.column_store.specs.Swapped.{swap_removed}
 use Rattle.column_store.proofs.Lists.{get-map, map-insert, map-remove, each-insert}
-use Rattle.column_store.proofs.Ordered.{rising-apart}
+use Rattle.column_store.proofs.Ordered.{not_before_itself, rising-apart}
 use Rattle.column_store.proofs.Rising.{parted_before, rising-insert, rising-remove}
 use Rattle.column_store.proofs.Swapped.{length-swap_removed, get_or-swap_here, get_or-swap_other}
 use Rattle.model.proofs.lists.Places.{get-there}
@@ -22,11 +23,6 @@ use Rattle.model.proofs.lists.Places.{get-there}
 
 lt_true : (a b : ℕ) → a < b → nat_lt a b ≡ true
 lt_true a b h = grind (arith, nat_tests)
-
-pub get-map_or : {A B : Type 0} (f : A → B) (xs : List A) (i : ℕ) (d : A) → get_or (map f xs) i (f d) ≡ f (get_or xs i d)
-get-map_or f [] i d = refl
-get-map_or f (x ∷ xs) zero d = refl
-get-map_or f (x ∷ xs) (suc i) d = get-map_or f xs i d
 
 -- ---- a gap by halving
 
@@ -44,9 +40,9 @@ parted_rows es e rows h i j d le lt at =
     let there_i : get_or rows i d < length es = each-at (λ r. r < length es) rows i d (omega arith) h.within in
     let long = length-map rows f in
     before_there es e (get_or rows i d) there_i
-    ∙ ap (λ x. is_before x e) (sym (get-map_or f rows i d))
+    ∙ ap (λ x. is_before x e) (sym (get_or-map f rows i d))
     ∙ parted_before e (map f rows) h.rising i j (f d) le (omega arith)
-    (ap (λ x. is_before x e) (get-map_or f rows j d) ∙ sym (before_there es e (get_or rows j d) there_j) ∙ at)
+    (ap (λ x. is_before x e) (get_or-map f rows j d) ∙ sym (before_there es e (get_or rows j d) there_j) ∙ at)
 
 pub gap_from_rows : (es : List Entity) (e : Entity) (rows : List ℕ) (i : ℕ) → AllByRecursion (λ row. row < length es) rows → i ≤ length rows →
     IsPartitionPoint (λ row. row_before es e row ≡ true) (λ row. row_before es e row ≡ false) rows i → IsGap e (map (entity_at es) rows) i
@@ -76,12 +72,6 @@ rows_above es e rows middle h at k d high l = go (row_before es e (get_or rows k
 
 -- ---- the place of a row
 
-not_before : (a b : ℕ) → (nat_lt a a || ((a == a) && nat_lt b b)) ≡ true → ⊥
-not_before a b h = grind (arith, nat_tests)
-
-not_before_itself : (x : Entity) → is_before x x ≡ true → ⊥
-not_before_itself x h = not_before x.index x.generation h
-
 pub each-has : (P : Entity → Type 0) (f : ℕ → Entity) (rows : List ℕ) (row : ℕ) → AllByRecursion P (map f rows) → has row rows ≡ true → P (f row)
 each-has P f [] row h k = absurd (cc)
 each-has P f (r ∷ rows) row h k = go (r == row) refl k (each-has P f rows row h.1)
@@ -107,7 +97,7 @@ placed es (r ∷ rows) (suc i) row d h k g = go (r == row) refl k (placed es row
         (suc i < length (r ∷ rows)) × (get_or rows i d ≡ row)
     go true e q more =
         let same : r ≡ row = eqb-true r row e in
-        absurd (not_before_itself (entity_at es row) (subst (λ n. is_before (entity_at es n) (entity_at es row) ≡ true) same g.0))
+        absurd (not_before_itself (entity_at es row).index (entity_at es row).generation (subst (λ n. is_before (entity_at es n) (entity_at es row) ≡ true) same g.0))
     go false e q more = let p = more q g.1 in (omega (arith, p.0), p.1)
 
 -- ---- a number more
@@ -276,7 +266,7 @@ module _ (es : List Entity) (rows : List ℕ) (row place moved : ℕ) (h : IsOrd
           let f : ℕ → Entity = entity_at es in
           let s = stays j l other (cases_eq j moved) in
           get_or_default (map g (set rows moved row)) j d (g 0) (omega (arith, length-map (set rows moved row) g, length-set rows moved row))
-          ∙ get-map_or g (set rows moved row) j 0 ∙ s.1 ∙ sym (get-map_or f rows j 0)
+          ∙ get_or-map g (set rows moved row) j 0 ∙ s.1 ∙ sym (get_or-map f rows j 0)
           ∙ sym (get_or_default (map f rows) j d (f 0) (omega (arith, length-map rows f)))
 
 -- ---- row numbers in turn

@@ -11,7 +11,7 @@ use Rattle.column_store.specs.RowOrder.{numbers_from, entity_at, IsOrderOf}
 -- ---- ids that rise are apart
 
 -- none comes before itself
-not_before_itself : (a b : ℕ) → (nat_lt a a || ((a == a) && nat_lt b b)) ≡ true → ⊥
+pub not_before_itself : (a b : ℕ) → (nat_lt a a || ((a == a) && nat_lt b b)) ≡ true → ⊥
 not_before_itself a b h = grind (arith, nat_tests)
 
 -- nor is one of those that come after it

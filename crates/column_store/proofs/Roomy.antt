@@ -7,21 +7,12 @@ use Rattle.model.specs.declared.entities.Entity.{Entity}
 use Rattle.column_store.specs.EntityList.{EntityListValue}
 use Rattle.column_store.specs.Swapped.{swap_removed}
 use Rattle.column_store.specs.Table.{ColumnSlotValue}
-use Rattle.column_store.specs.Inside.{room_of, swap_out_in, push_all, replace_all, HasRoom, AreRoomier, IsTable, IsTableWithRoom, IsTableWithSpare}
+use Rattle.column_store.specs.Inside.{swap_out_in, push_all, replace_all, HasRoom, AreRoomier, IsTable, IsTableWithRoom, IsTableWithSpare}
 use Rattle.column_store.proofs.Swapped.{length-swap_removed}
 use Rattle.column_store.proofs.Kept.{fewer_rooms, rooms-push, rooms-swap, rooms-replace, rooms-roomier}
 
 pub no_room : (ns : List ℕ) (es : EntityListValue) (ps : List ColumnSlotValue) → IsTable ns es.list ps → IsTableWithRoom ns es ps 0
 no_room ns es ps h = record { table = h; within = λ some. absurd (omega arith); each = λ some. absurd (omega arith) }
-
-rooms_as : (n : ℕ) (ps qs : List ColumnSlotValue) → map room_of qs ≡ map room_of ps → AllByRecursion (HasRoom n) ps → AllByRecursion (HasRoom n) qs
-rooms_as n ps [] h r = tt
-rooms_as n [] (q ∷ qs) h r = absurd (cc)
-rooms_as n (p ∷ ps) (q ∷ qs) h r =
-    let first : room_of q ≡ room_of p = cc in
-    let rest : map room_of qs ≡ map room_of ps = cc in
-    let old : n ≤ p.column.room = r.0 in
-    (omega arith, rooms_as n ps qs rest r.1)
 
 module _ (ns : List ℕ) (es es' : EntityListValue) (ps ps' : List ColumnSlotValue) (room : ℕ) (h : IsTableWithRoom ns es ps room) (table : IsTable ns es'.list ps') where
   pub pushed_room : (e : Entity) (cells : List Cell) → 0 < room → es'.list ≡ es.list ++ e ∷ [] → es.room ≤ es'.room → ps' ≡ push_all ps cells → IsTableWithRoom ns es' ps' (room - 1)
@@ -53,15 +44,6 @@ module _ (ns : List ℕ) (es es' : EntityListValue) (ps ps' : List ColumnSlotVal
         within = λ some. subst (λ (v : EntityListValue). length v.list + room ≤ v.room) (sym entities) (h.within some);
         each = λ some. subst (λ (v : EntityListValue). AllByRecursion (HasRoom (length v.list + room)) ps') (sym entities)
             (subst (AllByRecursion (HasRoom (length es.list + room))) (sym columns) (rooms-replace (length es.list + room) i ps cells (h.each some)));
-      }
-
-  pub written_room : es' ≡ es → map room_of ps' ≡ map room_of ps → IsTableWithRoom ns es' ps' room
-  written_room entities columns =
-      record {
-        table = table;
-        within = λ some. subst (λ (v : EntityListValue). length v.list + room ≤ v.room) (sym entities) (h.within some);
-        each = λ some. subst (λ (v : EntityListValue). AllByRecursion (HasRoom (length v.list + room)) ps') (sym entities)
-            (rooms_as (length es.list + room) ps ps' columns (h.each some));
       }
 
   pub roomier_room : es'.list ≡ es.list → es.room ≤ es'.room → AreRoomier ps ps' → IsTableWithRoom ns es' ps' room

@@ -1,5 +1,5 @@
 -- What a table's calls leave, from the row and the place of the column.
-use Rattle.std.proofs.Common.{◌≡◌, ℕ, zero, suc, ◌<◌, ℤ, ◌==◌, Bool, List, [], ◌∷◌, ◌++◌, length, get_or, map, option_map, option_and_then, Option, Some, None, refl, sym, ap, ap₂, ◌∙◌, arith}
+use Rattle.std.proofs.Common.{◌≡◌, ℕ, zero, suc, ◌<◌, ◌==◌, Bool, List, [], ◌∷◌, ◌++◌, length, get_or, map, option_map, option_and_then, Option, Some, None, refl, sym, ap, ap₂, ◌∙◌, arith}
 use Rattle.std.specs.List.{AllByRecursion}
 use Rattle.std.specs.Prelude.{slice_get}
 use Rattle.std.proofs.lemmas.List.{length-map}
@@ -7,16 +7,15 @@ use Rattle.std.proofs.lemmas.Simd.{map-map}
 use Rattle.model.specs.Lists.{update_at}
 use Rattle.model.specs.state.State.{Cell}
 use Rattle.model.specs.declared.entities.Entity.{Entity}
-use Rattle.column_store.specs.Cells.{changed_cell}
 use Rattle.column_store.specs.Column.{ColumnCells}
 use Rattle.column_store.specs.Places.{IsPlace, IsNowhere}
 use Rattle.column_store.specs.Swapped.{swap_removed}
-use Rattle.column_store.specs.Table.{Standing, ColumnSlotValue, TableRow, TableValue, is_home, with_cell_at, cell_of_kind, filled_rows, cell_in_row, standing_of, kind_cells, write_cell, moved_to, owned, homed, IsAlike}
+use Rattle.column_store.specs.Table.{Standing, ColumnSlotValue, TableRow, TableValue, is_home, cell_of_kind, filled_rows, cell_in_row, standing_of, kind_cells, moved_to, owned, homed, IsAlike}
 use Rattle.column_store.specs.Table.Standing.{Owned}
-use Rattle.column_store.specs.Inside.{standing_in, kind_in, standing_at, owned_slot, seen_column, seen_slot, cell_at, tail_in, write_in, swap_out_in, push_all, replace_all, rows_of, table_of, IsOfLength, AreAlike}
-use Rattle.column_store.proofs.Lists.{map-update_at, map-update_at_same, update_at-same, get-map}
+use Rattle.column_store.specs.Inside.{standing_in, kind_in, standing_at, owned_slot, seen_column, seen_slot, cell_at, tail_in, swap_out_in, push_all, replace_all, rows_of, table_of, IsOfLength, AreAlike}
+use Rattle.column_store.proofs.Lists.{map-update_at, map-update_at_same, get-map}
 use Rattle.column_store.proofs.Rows.{at_kind-place, at_kind-nowhere, update_kind-place}
-use Rattle.column_store.proofs.Columns.{with_cell, cell_of_column, filled, get_or-rows_of, length-rows_of, rows_of-write, rows_of-columns, cells-rows_of, rows_of-home, rows_of-push, rows_of-swap, rows_of-replace}
+use Rattle.column_store.proofs.Columns.{cell_of_column, filled, get_or-rows_of, length-rows_of, rows_of-columns, cells-rows_of, rows_of-home, rows_of-push, rows_of-swap, rows_of-replace}
 use Rattle.model.proofs.lists.Places.{get-there}
 
 pub place-within : {A : Type 0} (test : A → Bool) (xs : List A) (i : ℕ) → IsPlace test xs i → i < length xs
@@ -57,15 +56,6 @@ module _ (ns : List ℕ) (es : List Entity) (ps : List ColumnSlotValue) (k : ℕ
       go : (o : Option TableRow) → option_and_then (cell_of_kind ns k) o ≡ None
       go None = refl
       go (Some r) = ap (option_and_then (λ cell. cell)) (at_kind-nowhere k ns r.cells h)
-
-  -- ---- a write
-
-  pub table-write : (i j : ℕ) (w : List ℤ) (t : ℕ) → IsPlace (λ n. n == k) ns j →
-      table_of ns es (update_at j (write_in i w t) ps) ≡ write_cell (table_of ns es ps) i k w t
-  table-write i j w t of = made ns _ _ _ _ (map-update_at_same standing_in (write_in i w t) (λ p. refl) j ps)
-      (rows_of-write w t es ps i j
-      ∙ sym (update_at-same (with_cell_at ns k (option_map (changed_cell w t))) (with_cell j (option_map (changed_cell w t)))
-      (λ r. same_row r.entity _ _ (update_kind-place k (option_map (changed_cell w t)) ns r.cells j of)) i (rows_of es ps)))
 
 -- ---- a column that is lent or comes home
 

@@ -31,8 +31,3 @@ none-each P (x ∷ xs) l = absurd (omega arith)
 pub on_err_from : {A E : Type 0} (r : Result A E) (Q : Type 0) → Q → OnErr r Q
 on_err_from (Ok a) Q q = tt
 on_err_from (Err e) Q q = q
-
--- what follows from what holds after an error holds after it
-pub err_as : {A E : Type 0} (r : Result A E) {P Q : Type 0} → (P → Q) → OnErr r P → OnErr r Q
-err_as (Ok a) f h = tt
-err_as (Err e) f h = f h

@@ -1,5 +1,5 @@
 -- Rows as columns: what a table has inside, and what is done to its columns.
-use Rattle.std.specs.Prelude.{◌≡◌, ℕ, ◌+◌, ◌<◌, ◌≤◌, ℤ, true, List, [], ◌∷◌, ◌++◌, length, map, get_or, Option, Some, None, slice_get}
+use Rattle.std.specs.Prelude.{◌≡◌, ℕ, ◌+◌, ◌<◌, ◌≤◌, true, List, [], ◌∷◌, ◌++◌, length, map, get_or, Option, Some, None, slice_get}
 use Rattle.std.specs.List.{AllByRecursion}
 use Rattle.kinds.specs.declared.kind.Kind.{Kind}
 use Rattle.kinds.specs.Kind.{kind_number}
@@ -7,13 +7,13 @@ use Rattle.model.specs.state.State.{Cell}
 use Rattle.model.specs.declared.entities.Entity.{Entity}
 use Rattle.model.specs.Lists.{tail_of, update_at}
 use Rattle.column_store.specs.declared.stamped.StampedValue.{StampedValue}
-use Rattle.column_store.specs.Cells.{changed_cell, stamped_number}
+use Rattle.column_store.specs.Cells.{stamped_number}
 use Rattle.column_store.specs.Column.{ColumnCells}
 use Rattle.column_store.specs.EntityList.{EntityListValue}
 use Rattle.column_store.specs.Order.{AreApart}
 use Rattle.column_store.specs.Kinds.{AreBelow}
 use Rattle.column_store.specs.Swapped.{swap_removed}
-use Rattle.column_store.specs.Table.{Standing, ColumnSlotValue, TableRow, TableValue, is_home, is_owned, cell_in_row, standing_of, kind_cells, write_cell, moved_to, homed}
+use Rattle.column_store.specs.Table.{Standing, ColumnSlotValue, TableRow, TableValue, is_home, is_owned, cell_in_row, standing_of, kind_cells, moved_to, homed}
 use Rattle.column_store.specs.Table.Standing.{Owned}
 
 -- ---- one column
@@ -32,10 +32,6 @@ with_cells f p = record { standing = p.standing; column = record { kind = p.colu
 -- a column, whatever its room
 abbrev pub seen_column : ColumnSlotValue → ColumnCells
 seen_column p = record { kind = p.column.kind; cells = p.column.cells; room = 0 }
-
--- the room of a column
-abbrev pub room_of : ColumnSlotValue → ℕ
-room_of p = p.column.room
 
 -- the slot, whatever the room of its column
 abbrev pub seen_slot : ColumnSlotValue → ColumnSlotValue
@@ -56,9 +52,6 @@ cell_at row p = slice_get p.column.cells row
 -- the column without its first cell
 abbrev pub tail_in : ColumnSlotValue → ColumnSlotValue
 tail_in p = with_cells tail_of p
-
-abbrev pub write_in : ℕ → List ℤ → ℕ → ColumnSlotValue → ColumnSlotValue
-write_in row words tick p = with_cells (update_at row (changed_cell words tick)) p
 
 abbrev pub push_in : Cell → ColumnSlotValue → ColumnSlotValue
 push_in cell p = with_cells (λ cells. cells ++ cell ∷ []) p
@@ -179,18 +172,13 @@ table_with_room kinds entities columns room = record (table_of kinds entities.li
 
 -- ---- where a column is
 
--- the place of a kind's column: what the table has there at a row, and what it is after a write, and where the column stands otherwise or another one
--- comes
+-- the place of a kind's column: what the table has there at a row, and what it is where the column stands otherwise or another one comes
 pub record IsKindPlace (kinds : List ℕ) (entities : List Entity) (columns : List ColumnSlotValue) (kind column : ℕ) : Type 0 where
   pub within : column < length columns
   pub has_rows : (row : ℕ) (d : ColumnSlotValue) → row < length entities → row < length (get_or columns column d).column.cells
   pub standing : (d : ColumnSlotValue) → standing_of (table_of kinds entities columns) kind ≡ Some (get_or columns column d).standing
   pub of_kind : (d : ColumnSlotValue) → (get_or columns column d).column.kind ≡ kind
   pub cell : (row : ℕ) (d : ColumnSlotValue) → row < length entities → cell_in_row (table_of kinds entities columns) row kind ≡ cell_at row (get_or columns column d)
-  pub written : (row : ℕ) (words : List ℤ) (tick : ℕ) →
-      table_of kinds entities (update_at column (write_in row words tick) columns) ≡ write_cell (table_of kinds entities columns) row kind words tick
-  pub written_table : (row : ℕ) (words : List ℤ) (tick : ℕ) → IsTable kinds entities (update_at column (write_in row words tick) columns)
-  pub written_rooms : (row : ℕ) (words : List ℤ) (tick : ℕ) → map room_of (update_at column (write_in row words tick) columns) ≡ map room_of columns
   pub cells : (d : ColumnSlotValue) → map (λ cell. Some cell) (get_or columns column d).column.cells ≡ kind_cells (table_of kinds entities columns) kind
   pub moves : (s : Standing) → table_of kinds entities (update_at column (standing_at s) columns) ≡ moved_to s (table_of kinds entities columns) kind
   pub moves_table : (s : Standing) → IsTable kinds entities (update_at column (standing_at s) columns)

@@ -1,12 +1,11 @@
 -- What a table is: the rows of the entities of one archetype, and which of its columns are at home.
-use Rattle.std.specs.Prelude.{◌≡◌, ℕ, suc, ℤ, Bool, true, false, cond, List, [], ◌∷◌, map, slice_get, Option, Some, None, option_map, option_and_then}
+use Rattle.std.specs.Prelude.{◌≡◌, ℕ, Bool, true, false, cond, List, [], ◌∷◌, map, slice_get, Option, Some, None, option_map, option_and_then}
 use Rattle.model.specs.state.State.{Cell}
 use Rattle.model.specs.declared.entities.Entity.{Entity}
 use Rattle.column_store.specs.Order.{is_same}
-use Rattle.model.specs.Lists.{update_at}
 use Rattle.column_store.specs.Kinds.{at_kind, update_kind}
 use Rattle.column_store.specs.declared.stamped.StampedValue.{StampedValue}
-use Rattle.column_store.specs.Cells.{changed_cell, stamped_cell}
+use Rattle.column_store.specs.Cells.{stamped_cell}
 use Rattle.column_store.specs.Column.{ColumnCells}
 
 -- where a column is: the table's alone, at home and read elsewhere too, or lent
@@ -50,11 +49,6 @@ abbrev pub is_not_away : Option Standing → Bool
 is_not_away None = true
 is_not_away (Some standing) = is_home standing
 
--- whether a column is the table's alone, where it is there
-abbrev pub is_own_if : Option Standing → Bool
-is_own_if None = true
-is_own_if (Some standing) = is_owned standing
-
 -- ---- rows
 
 -- the row of an entity with these components
@@ -65,11 +59,6 @@ new_row e components = record { entity = e; cells = map (λ s. Some (stamped_cel
 abbrev pub row_of : Entity → List TableRow → Option TableRow
 row_of e [] = None
 row_of e (row ∷ rows) = cond (is_same row.entity e) (Some row) (row_of e rows)
-
--- how many rows come before that of an entity: the number of its row, and as many as there are where it has none
-abbrev pub row_number : Entity → List TableRow → ℕ
-row_number e [] = 0
-row_number e (row ∷ rows) = cond (is_same row.entity e) 0 (suc (row_number e rows))
 
 -- a row that has these components in place of its own
 abbrev pub renewed_row : List StampedValue → TableRow → TableRow
@@ -96,10 +85,6 @@ filled_rows kinds kind (cell ∷ cells) (row ∷ rows) =
 abbrev pub cell_in_row : TableValue → ℕ → ℕ → Option Cell
 cell_in_row t row kind = option_and_then (cell_of_kind t.kinds kind) (slice_get t.rows row)
 
--- the cell of a kind of an entity: there where both are
-abbrev pub cell_of_entity : TableValue → Entity → ℕ → Option Cell
-cell_of_entity t e kind = option_and_then (cell_of_kind t.kinds kind) (row_of e t.rows)
-
 -- where the column of a kind is
 abbrev pub standing_of : TableValue → ℕ → Option Standing
 standing_of t kind = at_kind t.kinds kind t.standings
@@ -107,15 +92,6 @@ standing_of t kind = at_kind t.kinds kind t.standings
 -- the cells of a kind, row by row
 abbrev pub kind_cells : TableValue → ℕ → List (Option Cell)
 kind_cells t kind = map (cell_of_kind t.kinds kind) t.rows
-
--- the table after a write of a component at a row at a tick: its added stamp stays
-abbrev pub write_cell : TableValue → ℕ → ℕ → List ℤ → ℕ → TableValue
-write_cell t row kind words tick = record {
-  kinds = t.kinds;
-  standings = t.standings;
-  rows = update_at row (with_cell_at t.kinds kind (option_map (changed_cell words tick))) t.rows;
-  room = t.room;
-}
 
 -- the table whose column of a kind stands otherwise. Where columns change place, room is made anew
 abbrev pub moved_to : Standing → TableValue → ℕ → TableValue

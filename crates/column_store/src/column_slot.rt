@@ -3,15 +3,13 @@
 ghost use Rattle.std.specs.Prelude.{◌≡◌, ◌⊎◌, ◌+◌, true, length, map, Some, IfOk, IfErr, OnOk, OnErr};
 ghost use Rattle.std.specs.List.{AllByRecursion};
 ghost use Rattle.std.specs.Arc.{arc_value};
-ghost use Rattle.kinds.specs.Value.{value_number, value_words};
 ghost use Rattle.column_store.specs.Cells.{stamped_number, stamped_cell};
 ghost use Rattle.column_store.specs.Table.{is_home};
 ghost use Rattle.column_store.specs.Table.Standing.{Owned, Shared, Away};
-ghost use Rattle.column_store.specs.Inside.{cell_at, kind_in, standing_at, seen_slot, owned_slot, empty_column, write_in, push_in, swap_out_in, replace_in, push_all, replace_all, HasRoom, HoldsRow, OwnsRow, IsOfLength, Takes, AllTake, Renews, AllRenew, IsAtHome, IsOwned, IsRoomier, AreRoomier, AreAlike};
+ghost use Rattle.column_store.specs.Inside.{cell_at, kind_in, standing_at, seen_slot, owned_slot, empty_column, push_in, swap_out_in, replace_in, push_all, replace_all, HasRoom, HoldsRow, OwnsRow, IsOfLength, Takes, AllTake, Renews, AllRenew, IsAtHome, IsOwned, IsRoomier, AreRoomier, AreAlike};
 
 use crate::stamped::{Components, StampedColumn, StampedValue};
-use change_ticks::Tick;
-use kinds::{Kind, Value};
+use kinds::Kind;
 use std::alloc::{AllocError, Global};
 use std::marker::Model;
 use std::mem;
@@ -141,27 +139,6 @@ impl ColumnSlot {
         }
         match &self.spot {
             Spot::Shared(shared) => Arc::try_clone(shared),
-            _ => unreachable!(),
-        }
-    }
-
-    // The component at a row.
-    pub(crate) fn at(&self, row: usize) -> StampedValue
-        requires { HoldsRow row self.now }
-        ensures cell { Some (stamped_cell result) ≡ cell_at row self.now }
-        ensures kind { stamped_number result ≡ kind_in self.now }
-    {
-        self.seen().at(row)
-    }
-
-    // Replaces the component at a row at a tick.
-    pub(crate) fn write(&mut self, row: usize, value: Value, tick: Tick)
-        requires there { OwnsRow row self.old }
-        requires kind { kind_in self.old ≡ value_number value }
-        ensures { self.new ≡ write_in row (value_words value) tick self.old }
-    {
-        match &mut self.spot {
-            Spot::Home(column) => column.write(row, value, tick),
             _ => unreachable!(),
         }
     }
@@ -331,7 +308,7 @@ pub(crate) fn read_row(
     components.clear();
     components.reserve(columns.len())?;
     for column in columns {
-        components.push_reserved(column.at(row));
+        components.push_reserved(column.seen().at(row));
     }
     Ok(())
 }

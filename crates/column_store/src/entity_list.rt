@@ -1,16 +1,14 @@
 // The entities of a table, their order, and the copy of them that readers elsewhere have a part in.
 
-ghost use Rattle.std.specs.Prelude.{◌≡◌, ◌+◌, ◌<◌, ◌≤◌, ◌++◌, ◌∷◌, [], length, MatchOption, IfOk, OnOk};
+ghost use Rattle.std.specs.Prelude.{◌≡◌, ◌+◌, ◌<◌, ◌≤◌, ◌++◌, ◌∷◌, [], length, IfOk, OnOk};
 ghost use Rattle.std.specs.Arc.{arc_value};
 ghost use Rattle.column_store.specs.Order.{is_same, AreApart};
-ghost use Rattle.column_store.specs.Places.{IsNowhere, IsPlace};
+ghost use Rattle.column_store.specs.Places.{IsNowhere};
 ghost use Rattle.column_store.specs.RowOrder.{OrdersRows};
 ghost use Rattle.column_store.specs.Swapped.{swap_removed};
 
 use crate::gap_list::GapList;
-use crate::row_numbers::{
-    comes_behind, ensure_listed, put_number, row_by_numbers, row_in_turn, take_number,
-};
+use crate::row_numbers::{comes_behind, ensure_listed, put_number, take_number};
 use crate::row_order::RowOrder;
 use entity_table::Entity;
 use std::alloc::{AllocError, Global};
@@ -93,18 +91,6 @@ impl EntityList {
             self.numbers.order()
         } else {
             RowOrder::Rising
-        }
-    }
-
-    // The row of an entity, found by halving.
-    pub(crate) fn row(&self, e: Entity) -> Option<usize>
-        ensures { MatchOption result (IsNowhere (λ x. is_same x e) self.now.list) (IsPlace
-            (λ x. is_same x e) self.now.list) }
-    {
-        if self.listed {
-            row_by_numbers(&self.list, &self.numbers, e)
-        } else {
-            row_in_turn(&self.list, e)
         }
     }
 

@@ -2,7 +2,7 @@
 
 ghost use Rattle.std.specs.Prelude.{◌≡◌, ◌==◌, position};
 ghost use Rattle.kinds.specs.Kind.{kind_number};
-ghost use Rattle.column_store.specs.Order.{is_before, is_same};
+ghost use Rattle.column_store.specs.Order.{is_before};
 
 use entity_table::Entity;
 use kinds::Kind;
@@ -12,13 +12,6 @@ pub(crate) fn is_before(one: Entity, other: Entity) -> bool
     ensures { result ≡ is_before one other }
 {
     one.index < other.index || (one.index == other.index && one.generation < other.generation)
-}
-
-// Whether two ids are one.
-pub(crate) fn is_same(one: Entity, other: Entity) -> bool
-    ensures { result ≡ is_same one other }
-{
-    one == other
 }
 
 // The place of the kind with this number.

@@ -1,14 +1,14 @@
 // The numbers of rows in rising ids: one is found by halving, and put in or taken out.
 
-ghost use Rattle.std.specs.Prelude.{◌≡◌, ◌+◌, ◌<◌, ◌≤◌, ◌^◌, ◌++◌, ◌∷◌, ◌&&◌, [], true, cond, nat_lt, length, map, MatchOption};
+ghost use Rattle.std.specs.Prelude.{◌≡◌, ◌+◌, ◌<◌, ◌≤◌, ◌^◌, ◌++◌, ◌∷◌, ◌&&◌, [], true, cond, nat_lt, length, map};
 ghost use Rattle.column_store.specs.EntityList.{IsKept};
-ghost use Rattle.column_store.specs.Order.{is_before, is_same, AreApart, AreRising};
-ghost use Rattle.column_store.specs.Places.{IsGap, IsNowhere, IsPlace};
+ghost use Rattle.column_store.specs.Order.{is_before, is_same, AreRising};
+ghost use Rattle.column_store.specs.Places.{IsGap, IsNowhere};
 ghost use Rattle.column_store.specs.RowOrder.{entity_at, IsOrderOf};
 ghost use Rattle.column_store.specs.Swapped.{swap_removed};
 
 use crate::gap_list::GapList;
-use crate::order::{is_before, is_same};
+use crate::order::is_before;
 use entity_table::Entity;
 
 // Whether a row is there, and its entity comes before another.
@@ -55,51 +55,6 @@ fn gap_of(entities: &[Entity], numbers: &GapList, e: Entity, near: usize) -> usi
         }
     }
     low
-}
-
-// How many of the entities, whose ids rise row by row, come before this one, found by halving.
-fn gap_in_turn(entities: &[Entity], e: Entity) -> usize
-    requires { AreRising entities.now }
-    ensures { IsGap e entities.now result }
-{
-    entities.partition_point(|x| is_before(*x, e))
-}
-
-// The row of an entity where ids rise row by row.
-#[tactic(auto, using(crate::proofs::Rising::id_places))]
-pub(crate) fn row_in_turn(entities: &[Entity], e: Entity) -> Option<usize>
-    requires { AreRising entities.now }
-    ensures { MatchOption result (IsNowhere (λ x. is_same x e) entities.now) (IsPlace
-        (λ x. is_same x e) entities.now) }
-{
-    let row = gap_in_turn(entities, e);
-    if row >= entities.len() {
-        return None;
-    }
-    if is_same(entities[row], e) {
-        Some(row)
-    } else {
-        None
-    }
-}
-
-// The row of an entity by the numbers of the rows in rising ids.
-pub(crate) fn row_by_numbers(entities: &[Entity], numbers: &GapList, e: Entity) -> Option<usize>
-    requires apart { AreApart entities.now }
-    requires order { IsOrderOf entities.now numbers.now.items }
-    ensures { MatchOption result (IsNowhere (λ x. is_same x e) entities.now) (IsPlace
-        (λ x. is_same x e) entities.now) }
-{
-    let place = gap_of(entities, numbers, e, numbers.gap());
-    if place >= numbers.len() {
-        return None;
-    }
-    let row = numbers.at(place) as usize;
-    if is_same(entities[row], e) {
-        Some(row)
-    } else {
-        None
-    }
 }
 
 // Lists the numbers of the rows in rising ids, where they aren't, so that ids rise row by row.

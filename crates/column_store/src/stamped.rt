@@ -111,7 +111,7 @@ impl StampedColumn {
     }
 
     /// Each component has as many fields as the kind.
-    pub fn prove_law(&self)
+    pub fn prove_widths(&self)
         ensures { AllByRecursion (λ c. length c.words ≡ widths self.now.kind) self.now.cells }
     {
         self.column.prove_width();

@@ -1,9 +1,8 @@
 // Tables.
 
-ghost use Rattle.std.specs.Prelude.{◌≡◌, ◌⊎◌, ◌+◌, ◌-◌, ◌<◌, ◌≤◌, ◌++◌, ◌∷◌, [], length, map, option_map, Some, IsSome, IsNone, IfSome, IfOk, OnOk, OnErr, IsTrue, slice_get};
+ghost use Rattle.std.specs.Prelude.{◌≡◌, ◌⊎◌, ◌+◌, ◌-◌, ◌<◌, ◌≤◌, ◌++◌, ◌∷◌, [], length, map, option_map, Some, IsNone, IfSome, IfOk, OnOk, OnErr, IsTrue, slice_get};
 ghost use Rattle.std.specs.List.{list_all};
 ghost use Rattle.kinds.specs.Kind.{kind_number};
-ghost use Rattle.kinds.specs.Value.{value_number, value_words};
 ghost use Rattle.model.specs.Lists.{update_at};
 ghost use Rattle.column_store.specs.Cells.{stamped_number, stamped_cell};
 ghost use Rattle.column_store.specs.Kinds.{in_order, AreBelow};
@@ -11,19 +10,18 @@ ghost use Rattle.column_store.specs.Order.{AreApart};
 ghost use Rattle.column_store.specs.RowOrder.{OrdersRows};
 ghost use Rattle.column_store.specs.Swapped.{swap_removed};
 ghost use Rattle.std.specs.Arc.{arc_value};
-ghost use Rattle.column_store.specs.Table.{Standing, empty_table, is_home, is_owned, is_not_away, is_own_if, row_of, row_number, new_row, renewed_row, cell_in_row, cell_of_entity, standing_of, kind_cells, write_cell, lent, shared, owned, homed, IsHome, IsAlike};
+ghost use Rattle.column_store.specs.Table.{Standing, empty_table, is_home, is_owned, is_not_away, row_of, new_row, renewed_row, cell_in_row, standing_of, kind_cells, lent, shared, owned, homed, IsHome, IsAlike};
 
 use crate::column_slot::{
     ColumnSlot, copied_slots, empty_columns, own_each, push_row, read_row, replace_row,
     reserve_rows, swap_remove_row,
 };
 use crate::entity_list::EntityList;
-use crate::parts::{among, copied_kinds, find_in, home_in, lend_in, seen_in, share_in, write_in};
+use crate::parts::{among, copied_kinds, kind_place, number_place};
 use crate::row_order::RowOrder;
 use crate::stamped::{Components, StampedColumn, StampedValue};
-use change_ticks::Tick;
 use entity_table::Entity;
-use kinds::{Component, Kind, Value};
+use kinds::Kind;
 use std::alloc::{AllocError, Global};
 use std::marker::Model;
 use std::sync::Arc;
@@ -132,6 +130,13 @@ impl Table {
         self.entities.as_slice()
     }
 
+    /// No entity is there twice.
+    pub fn prove_apart(&self)
+        ensures { AreApart (map (λ row. row.entity) self.now.rows) }
+    {
+        self.entities();
+    }
+
     /// The order of the rows, in which ids rise. It is kept: nothing is computed.
     pub fn order(&self) -> RowOrder<'_>
         ensures { OrdersRows (map (λ row. row.entity) self.now.rows) result }
@@ -162,66 +167,10 @@ impl Table {
         ensures cell { option_map stamped_cell result ≡ cell_in_row self.now row number }
         ensures number { IfSome result (λ s. stamped_number s ≡ number) }
     {
-        find_in(
-            &self.kinds,
-            self.entities.as_slice(),
-            &self.columns,
-            row,
-            number,
-        )
-    }
-
-    // The row of an entity, found by halving in the order of ids.
-    fn row(&self, e: Entity) -> Option<usize>
-        ensures { result ≡ option_map (λ _. row_number e self.now.rows) (row_of e self.now.rows) }
-    {
-        self.entities.row(e)
-    }
-
-    // The row of an entity that is there.
-    fn known_row(&self, e: Entity) -> usize
-        requires { IsSome (row_of e self.now.rows) }
-        ensures number { result ≡ row_number e self.now.rows }
-        ensures within { result < length self.now.rows }
-        ensures row { slice_get self.now.rows result ≡ row_of e self.now.rows }
-    {
-        match self.row(e) {
-            None => unreachable!(),
-            Some(row) => row,
+        match number_place(&self.kinds, number) {
+            None => None,
+            Some(column) => Some(self.columns[column].seen().at(row)),
         }
-    }
-
-    /// The component of an entity.
-    pub fn get<C: Component>(&self, e: Entity) -> C
-        requires there { IsSome (cell_of_entity self.now e C.NUMBER) }
-        requires home { IsTrue (is_not_away (standing_of self.now C.NUMBER)) }
-        ensures { option_map (λ c. c.words) (cell_of_entity self.now e C.NUMBER)
-            ≡ Some (C.words result) }
-    {
-        match self.find(self.known_row(e), C::NUMBER) {
-            None => unreachable!(),
-            Some(component) => match C::from_value(component.value) {
-                None => unreachable!(),
-                Some(component) => component,
-            },
-        }
-    }
-
-    // Replaces a component at a row, which counts as changed at this tick, also where the value stays.
-    fn write(&mut self, row: usize, value: Value, tick: Tick)
-        requires within { row < length self.old.rows }
-        requires there { IsSome (cell_in_row self.old row (value_number value)) }
-        requires owned { IsTrue (is_own_if (standing_of self.old (value_number value))) }
-        ensures { self.new ≡ write_cell self.old row (value_number value) (value_words value) tick }
-    {
-        write_in(
-            &self.kinds,
-            self.entities.as_slice(),
-            &mut self.columns,
-            row,
-            value,
-            tick,
-        );
     }
 
     /// Makes room for `further` more rows. Where an allocation fails the table stays as it was.
@@ -243,21 +192,6 @@ impl Table {
         reserve_rows(&mut self.columns, count, spare)?;
         self.spare = spare;
         self.room = room;
-        Ok(())
-    }
-
-    /// Adds the row of an entity that isn't there at the end, with its components in the order of the kinds. Where an allocation fails the
-    /// table stays as it was.
-    pub fn put(&mut self, e: Entity, components: &[StampedValue]) -> Result<(), AllocError>
-        requires absent { IsNone (row_of e self.old.rows) }
-        requires kinds { map stamped_number components.now ≡ self.old.kinds }
-        requires owned { IsTrue (list_all is_owned self.old.standings) }
-        ensures ok { OnOk result (self.new
-            ≡ record self.old { rows = self.old.rows ++ new_row e components.now ∷ [] }) }
-        ensures err { OnErr result (self.new ≡ self.old) }
-    {
-        self.reserve(1)?;
-        self.push(e, components);
         Ok(())
     }
 
@@ -309,21 +243,6 @@ impl Table {
         swap_remove_row(&mut self.columns, row);
     }
 
-    // The components at a row, in the order of the kinds.
-    fn components(&self, alloc: Global, row: usize) -> Result<Vec<StampedValue>, AllocError>
-        requires within { row < length self.now.rows }
-        requires home { IsTrue (list_all is_home self.now.standings) }
-        ensures cells { IfOk result (λ components. option_map (λ r. r.cells) (slice_get
-            self.now.rows row)
-            ≡ Some (map (λ s. Some (stamped_cell s)) components.items)) }
-        ensures kinds { IfOk result (λ components. map stamped_number components.items
-            ≡ self.now.kinds) }
-    {
-        let mut components = Components::new(alloc);
-        self.read(row, &mut components)?;
-        Vec::from_slice(alloc, components.as_slice())
-    }
-
     /// Lists the components at a row, in the order of the kinds, in the room of a list. A list of few allocates nothing.
     pub fn read(&self, row: usize, components: &mut Components) -> Result<(), AllocError>
         requires within { row < length self.now.rows }
@@ -335,28 +254,6 @@ impl Table {
         read_row(&self.columns, row, components)
     }
 
-    /// Removes the row of an entity, moves the last one into its place, and gives its components, in the order of the kinds. Where an
-    /// allocation fails the table stays as it was.
-    pub fn take(&mut self, alloc: Global, e: Entity) -> Result<Vec<StampedValue>, AllocError>
-        requires there { IsSome (row_of e self.old.rows) }
-        requires owned { IsTrue (list_all is_owned self.old.standings) }
-        ensures row { IfOk result (λ components. row_of e self.old.rows
-            ≡ Some (new_row e components.items)) }
-        ensures kinds { IfOk result (λ components. map stamped_number components.items
-            ≡ self.old.kinds) }
-        ensures ok { OnOk result (self.new
-            ≡ record self.old {
-              rows = swap_removed self.old.rows (row_number e
-                  self.old.rows);
-            }) }
-        ensures err { OnErr result (self.new ≡ self.old) }
-    {
-        let row = self.known_row(e);
-        let components = self.components(alloc, row)?;
-        self.swap_remove(row);
-        Ok(components)
-    }
-
     /// The column of a kind, which is at home.
     pub fn column(&self, kind: Kind) -> &StampedColumn
         requires { IsHome (standing_of self.now (kind_number kind)) }
@@ -364,7 +261,10 @@ impl Table {
         ensures cells { map (λ cell. Some cell) result.now.cells
             ≡ kind_cells self.now (kind_number kind) }
     {
-        seen_in(&self.kinds, self.entities.as_slice(), &self.columns, kind)
+        let Some(place) = kind_place(&self.kinds, kind) else {
+            unreachable!();
+        };
+        self.columns[place].seen()
     }
 
     /// Takes a column that is at home out of the table until it comes home. One that is still read elsewhere is copied for it. After an
@@ -377,13 +277,10 @@ impl Table {
         ensures away { OnOk result (self.new ≡ lent self.old (kind_number kind)) }
         ensures err { OnErr result (self.new ≡ self.old) }
     {
-        let column = lend_in(
-            &self.kinds,
-            self.entities.as_slice(),
-            &mut self.columns,
-            alloc,
-            kind,
-        )?;
+        let Some(place) = kind_place(&self.kinds, kind) else {
+            unreachable!();
+        };
+        let column = self.columns[place].lend(alloc)?;
         self.spare = 0;
         self.room = 0;
         Ok(column)
@@ -405,15 +302,12 @@ impl Table {
             ⊎ (self.new ≡ shared self.old (kind_number kind))) }
         ensures alike { IsAlike self.old self.new }
     {
+        let Some(place) = kind_place(&self.kinds, kind) else {
+            unreachable!();
+        };
         self.spare = 0;
         self.room = 0;
-        share_in(
-            &self.kinds,
-            self.entities.as_slice(),
-            &mut self.columns,
-            alloc,
-            kind,
-        )
+        self.columns[place].share(alloc)
     }
 
     /// Takes every column for the table alone. One that is still read elsewhere is copied for it. Where an allocation fails some may be the
@@ -434,24 +328,11 @@ impl Table {
         requires same_length { length column.cells ≡ length self.old.rows }
         ensures { self.new ≡ homed self.old column }
     {
+        let Some(place) = kind_place(&self.kinds, column.kind()) else {
+            unreachable!();
+        };
         self.spare = 0;
         self.room = 0;
-        home_in(
-            &self.kinds,
-            self.entities.as_slice(),
-            &mut self.columns,
-            column,
-        );
-    }
-
-    /// Replaces the component of an entity, which counts as changed at this tick, also where the value stays.
-    pub fn set<C: Component>(&mut self, e: Entity, component: C, tick: Tick)
-        requires there { IsSome (cell_of_entity self.old e C.NUMBER) }
-        requires owned { IsTrue (is_own_if (standing_of self.old C.NUMBER)) }
-        ensures { self.new
-            ≡ write_cell self.old (row_number e self.old.rows) C.NUMBER (C.words component) tick }
-    {
-        let row = self.known_row(e);
-        self.write(row, component.into_value(), tick);
+        self.columns[place] = ColumnSlot::of(column);
     }
 }

@@ -14,11 +14,15 @@ ghost use Rattle.archetype_store.specs.Changes.{with_new};
 ghost use Rattle.archetype_store.specs.Layout.{AreAllHome};
 ghost use Rattle.archetype_store.specs.Store.{at_clock, with_slots};
 
+use crate::change::{EntityChange, Fate};
 use crate::fault::GrantFault;
+use crate::row_moves::change_rows;
+use crate::settling::{prove_book, settle_all};
 use crate::store::World;
 use column_store::Components;
 use entity_table::{Entity, Status};
 use std::alloc::Global;
+use std::snapshot::Snapshot;
 
 impl World {
     /// Makes a new entity with these components, in rising kinds, at the least vacant index. `IdsSpent` where no index is left. After an error
@@ -36,7 +40,24 @@ impl World {
         ensures err { OnErr result (self.new ≡ self.old) }
         ensures home { AreAllHome self.new.layout }
     {
-        self.slots.spawn(alloc, components)
+        let before = Snapshot::of(&self.ids);
+        prove_book(&self.ids);
+        let granted = self.ids.grant(alloc, 1)?;
+        let entity = granted[0];
+        let changes = [EntityChange {
+            entity,
+            fate: Fate::Lives(components),
+        }];
+        match change_rows(alloc, &mut self.rows, &mut self.index, &changes) {
+            Ok(()) => {
+                settle_all(&mut self.ids, &changes);
+                Ok(entity)
+            }
+            Err(_) => {
+                self.ids.take_back(entity, before);
+                Err(GrantFault::Memory)
+            }
+        }
     }
 
     /// Adds the index behind the last one, at this generation and status, without components: a world is built again from one that was written
@@ -50,7 +71,8 @@ impl World {
         ensures layout { self.new.layout ≡ self.old.layout }
         ensures err { OnErr result (self.new ≡ self.old) }
     {
-        self.slots.push(generation, status)
+        self.ids.push(generation, status)?;
+        Ok(())
     }
 
     /// Takes the last tick of the clock back, which no stamp of the world has yet.

@@ -1,69 +1,75 @@
 use Rattle.std.proofs.Common.{◌≡◌, ◌<◌, ◌-◌, ◌+◌, drop, length, get_or, map, refl, sym, ap, subst, ◌∙◌, arith}
 use Rattle.std.specs.List.{AllByRecursion}
-use Rattle.archetype_store.specs.Storage.{archetypes_of}
+use Rattle.model.proofs.lists.Bools.{apart_number}
+use Rattle.model.proofs.lists.Each.{each-at}
 use Rattle.archetype_store.specs.RowMoves.{change_of, other_table, arrives_in, HasLeft, IsPlanned}
+use Rattle.archetype_store.specs.Rows.{rows_seen}
+use Rattle.archetype_store.proofs.ColumnStandings.{owned_kept}
 use Rattle.archetype_store.proofs.RowDepartures.{all_stepped, room_after, arrives_first, alike_first, alike_next}
 use Rattle.archetype_store.proofs.RowMoveOrder.{change_is, within, later_apart, gone_more, none_behind}
 use Rattle.archetype_store.proofs.RowMoves.{planned_rest, gone_rest}
+use Rattle.archetype_store.proofs.RowsMoved.{HasGone, has_gone}
 use Rattle.archetype_store.proofs.row_moves.leave_all.Goals as goal
-use Rattle.model.proofs.lists.Bools.{apart_number}
+
+pub leave_row-requires-clause-owned : goal.leave_row-requires-clause-owned
+leave_row-requires-clause-owned c = owned_kept c.args.rows.now.tables c.loop-left.rows.tables c.loop-left.invariant.shapes c.requires.owned
+
+pub leave_row-requires-clause-theirs : goal.leave_row-requires-clause-theirs
+leave_row-requires-clause-theirs c =
+    let m = c.index-moves-left.result in
+    let P = IsPlanned c.loop-left.rows.tables c.loop-left.rows.places in
+    let l : c.loop-left.left - 1 < length c.args.moves.now = (let w = c.loop-left.invariant.within in let t = c.loop-left-test.true in omega (arith, w, t)) in
+    (subst P (sym c.index-moves-left.is) (each-at P c.args.moves.now (c.loop-left.left - 1) m l c.loop-left.invariant.planned)).holder
 
 pub loop-left-init : goal.loop-left-init
 loop-left-init c =
-    let T = c.args.tables.now.items in
-    let P = c.args.places.now.items in
+    let v = c.args.rows.now in
     record {
       within = omega arith;
-      whole = c.requires.whole;
-      known = c.requires.known;
-      owned = c.requires.owned;
+      rows = c.prove_rows.ensures;
       shapes = refl;
       planned = c.requires.planned;
-      arrives = arrives_first P c.args.rows.now;
-      gone = none_behind P c.args.rows.now;
+      arrives = arrives_first v.places c.args.moves.now;
+      gone = none_behind v.places c.args.moves.now;
       rooms = λ t. refl;
-      alike = alike_first (archetypes_of T P) (map change_of c.args.rows.now);
+      alike = alike_first (rows_seen v) (map change_of c.args.moves.now);
     }
 
 pub loop-left-preserved : goal.loop-left-preserved
 loop-left-preserved c =
-    let rows = c.args.rows.now in
+    let moves = c.args.moves.now in
     let n = c.loop-left.left - 1 in
-    let m = c.index-rows-left.result in
-    let T0 = c.args.tables.now.items in
-    let P0 = c.args.places.now.items in
-    let T = c.loop-left.tables.items in
-    let P = c.loop-left.places.items in
-    let T' = c.leave_row.new.tables.items in
-    let P' = c.leave_row.new.places.items in
+    let m = c.index-moves-left.result in
+    let u = c.args.rows.now in
+    let v = c.loop-left.rows in
+    let w = c.leave_row.new.rows in
     let i = c.loop-left.invariant in
-    let e = c.leave_row.ensures in
-    let l : n < length rows = (let w = i.within in let t = c.loop-left-test.true in omega (arith, w, t)) in
-    let is : get_or rows n m ≡ m = sym c.index-rows-left.is in
-    let at = change_is rows n m l is in
-    let among = within rows n m l is in
+    let l : n < length moves = (let w = i.within in let t = c.loop-left-test.true in omega (arith, w, t)) in
+    let is : get_or moves n m ≡ m = sym c.index-moves-left.is in
+    let plan = subst (IsPlanned v.tables v.places) is (each-at (IsPlanned v.tables v.places) moves n m l i.planned) in
+    let e = subst (HasGone v m) (sym c.leave_row.ensures) (has_gone v i.rows m plan) in
+    let at = change_is moves n m l is in
+    let among = within moves n m l is in
     record {
       within = (let w = i.within in omega (arith, w));
-      whole = e.whole;
-      known = e.known;
-      owned = e.owned;
+      rows = e.rows;
       shapes = e.shapes ∙ i.shapes;
-      planned = all_stepped m (IsPlanned T P) (IsPlanned T' P')
-          (λ x other plan. planned_rest T T' P P' x e.shapes e.as_many plan (e.others x.change.now.entity.index (apart_number x.change.now.entity.index m.change.now.entity.index other)))
-          (λ plan. e.planned) rows n l is c.requires.apart i.planned;
-      arrives = all_stepped m (λ x. arrives_in P x ≡ arrives_in P0 x) (λ x. arrives_in P' x ≡ arrives_in P0 x)
+      planned = all_stepped m (IsPlanned v.tables v.places) (IsPlanned w.tables w.places)
+          (λ x other plan. planned_rest v.tables w.tables v.places w.places x e.shapes e.many plan (e.others x.change.now.entity.index (apart_number x.change.now.entity.index m.change.now.entity.index other)))
+          (λ plan. e.planned) moves n l is c.requires.apart i.planned;
+      arrives = all_stepped m (λ x. arrives_in v.places x ≡ arrives_in u.places x) (λ x. arrives_in w.places x ≡ arrives_in u.places x)
           (λ x other same. ap (λ o. other_table o x.to) (e.others x.change.now.entity.index (apart_number x.change.now.entity.index m.change.now.entity.index other)) ∙ same)
-          (λ same. e.arrives ∙ same) rows n l is c.requires.apart i.arrives;
-      gone = gone_more rows n m l is P' e.gone (gone_rest T T' P P' m e.shapes e.as_many e.others (drop (n + 1) rows) (later_apart rows n m l is c.requires.apart)
-          (subst (λ k. AllByRecursion (HasLeft P) (drop k rows)) (let next : c.loop-left.left ≡ n + 1 = (let t = c.loop-left-test.true in omega (arith, t)) in next) i.gone));
+          (λ same. e.arrives ∙ same) moves n l is c.requires.apart i.arrives;
+      gone = gone_more moves n m l is w.places e.gone (gone_rest v.tables w.tables v.places w.places m e.shapes e.many e.others (drop (n + 1) moves) (later_apart moves n m l is c.requires.apart)
+          (subst (λ k. AllByRecursion (HasLeft v.places) (drop k moves)) (let next : c.loop-left.left ≡ n + 1 = (let t = c.loop-left-test.true in omega (arith, t)) in next) i.gone));
       rooms = λ t. e.rooms t ∙ i.rooms t;
-      alike = alike_next (archetypes_of T0 P0) (archetypes_of T P) (archetypes_of T' P') (map change_of rows) n (change_of m) among at i.alike e.alike;
+      alike = alike_next (rows_seen u) (rows_seen v) (rows_seen w) (map change_of moves) n (change_of m) among at i.alike e.alike;
     }
 
 pub returns-clause-room : goal.returns-clause-room
 returns-clause-room c =
-    room_after c.args.tables.now.items c.loop-left.tables.items c.args.places.now.items c.loop-left.places.items c.args.rows.now c.loop-left.invariant.arrives c.loop-left.invariant.rooms c.requires.room
+    room_after c.args.rows.now.tables c.loop-left.rows.tables c.args.rows.now.places c.loop-left.rows.places c.args.moves.now c.loop-left.invariant.arrives c.loop-left.invariant.rooms c.requires.room
 
 pub returns-clause-gone : goal.returns-clause-gone
 returns-clause-gone c =
-    subst (λ k. AllByRecursion (HasLeft c.loop-left.places.items) (drop k c.args.rows.now)) (let none : c.loop-left.left ≡ 0 = (let t = c.loop-left-test.false in omega (arith, t)) in none) c.loop-left.invariant.gone
+    subst (λ k. AllByRecursion (HasLeft c.loop-left.rows.places) (drop k c.args.moves.now)) (let none : c.loop-left.left ≡ 0 = (let t = c.loop-left-test.false in omega (arith, t)) in none) c.loop-left.invariant.gone

@@ -4,16 +4,14 @@ use Rattle.archetype_store.specs.TableIndex.{IsFound}
 use Rattle.archetype_store.specs.Tables.{IsGrown}
 use Rattle.archetype_store.specs.Storage.{place_of}
 use Rattle.archetype_store.specs.RowMoves.{change_of, IsPlanned}
-use Rattle.archetype_store.specs.RowNumbers.{AreRowsKnown}
 use Rattle.archetype_store.proofs.row_moves.planned_all.Given as goal
 
 -- the changes so far are planned
 abbrev pub invariant-loop-change : goal.invariant-loop-change
 invariant-loop-change l = record {
-  found : IsFound l.tables.items l.index;
-  grown : IsGrown l.fn.tables.items l.tables.items;
-  known : AreRowsKnown l.tables.items l.places.items l.numbers.items;
-  same : (i : ℕ) → place_of l.places.items i ≡ place_of l.fn.places.items i;
-  changes : map change_of l.rows.items ≡ take l.change-index l.changes;
-  planned : AllByRecursion (IsPlanned l.tables.items l.places.items) l.rows.items;
+  found : IsFound l.rows.tables l.index;
+  grown : IsGrown l.fn.rows.tables l.rows.tables;
+  same : (i : ℕ) → place_of l.rows.places i ≡ place_of l.fn.rows.places i;
+  changes : map change_of l.moves.items ≡ take l.change-index l.changes;
+  planned : AllByRecursion (IsPlanned l.rows.tables l.rows.places) l.moves.items;
 }

@@ -4,6 +4,7 @@ use Rattle.archetype_store.proofs.row_moves.release_all.Given as goal
 
 abbrev pub invariant-loop-row : goal.invariant-loop-row
 invariant-loop-row l = record {
-  shapes : map shape_of l.tables.items ≡ map shape_of l.fn.tables.items;
-  alike : AreAllAlike l.fn.tables.items l.tables.items;
+  places : l.rows.places ≡ l.fn.rows.places;
+  shapes : map shape_of l.rows.tables ≡ map shape_of l.fn.rows.tables;
+  alike : AreAllAlike l.fn.rows.tables l.rows.tables;
 }

@@ -6,7 +6,8 @@ use Rattle.archetype_store.proofs.row_moves.reserve_all.Given as goal
 -- there is room for the rows so far
 abbrev pub invariant-loop-row : goal.invariant-loop-row
 invariant-loop-row l = record {
-  shapes : map shape_of l.tables.items ≡ map shape_of l.fn.tables.items;
-  alike : AreAllAlike l.fn.tables.items l.tables.items;
-  room : HaveRoom l.tables.items l.places (take l.row-index l.rows);
+  places : l.rows.places ≡ l.fn.rows.places;
+  shapes : map shape_of l.rows.tables ≡ map shape_of l.fn.rows.tables;
+  alike : AreAllAlike l.fn.rows.tables l.rows.tables;
+  room : HaveRoom l.rows.tables l.fn.rows.places (take l.row-index l.moves);
 }

@@ -1,8 +1,9 @@
-use Rattle.std.proofs.Common.{◌≡◌, ◌+◌, ◌≤◌, List, [], length, map, Some, ap, subst, sym, ◌∙◌}
+use Rattle.std.proofs.Common.{◌≡◌, ◌+◌, ◌≤◌, List, [], length, map, slice_get, Some, ap, subst, sym, ◌∙◌}
 use Rattle.std.proofs.lemmas.List.{length_push}
 use Rattle.model.proofs.lists.Turns.{copied_next}
 use Rattle.column_store.specs.Cells.{stamped_number, stamped_cell}
 use Rattle.column_store.specs.declared.stamped.StampedValue.{StampedValue}
+use Rattle.column_store.specs.Column.{ColumnCells}
 use Rattle.column_store.specs.Table.{ColumnSlotValue}
 use Rattle.column_store.specs.Inside.{cell_at, kind_in}
 use Rattle.column_store.proofs.Turns.{all_seen}
@@ -13,10 +14,10 @@ loop-column-preserved c = record {
   cells =
       copied_next (λ (s : StampedValue). Some (stamped_cell s)) (cell_at c.args.row) c.args.columns.now c.loop-column.column-index c.column-item.result [] c.loop-column.components.items
       c.push_reserved.new.self.items c.at.result
-      c.loop-column-test.true c.loop-column.invariant.cells (c.at.ensures.cell ∙ ap (cell_at c.args.row) c.column-item.is) c.push_reserved.ensures.items;
+      c.loop-column-test.true c.loop-column.invariant.cells (sym c.at.ensures.cell ∙ ap (λ (x : ColumnCells). slice_get x.cells c.args.row) c.seen.ensures ∙ ap (cell_at c.args.row) c.column-item.is) c.push_reserved.ensures.items;
   kinds =
       copied_next stamped_number kind_in c.args.columns.now c.loop-column.column-index c.column-item.result [] c.loop-column.components.items c.push_reserved.new.self.items c.at.result
-      c.loop-column-test.true c.loop-column.invariant.kinds (c.at.ensures.kind ∙ ap kind_in c.column-item.is) c.push_reserved.ensures.items;
+      c.loop-column-test.true c.loop-column.invariant.kinds (c.at.ensures.number ∙ ap (λ (x : ColumnCells). x.kind) c.seen.ensures ∙ ap kind_in c.column-item.is) c.push_reserved.ensures.items;
   many = ap length c.push_reserved.ensures.items ∙ length_push c.loop-column.components.items c.at.result ∙ ap (λ n. n + 1) c.loop-column.invariant.many;
   room = subst (λ n. length c.args.columns.now ≤ n) (sym c.push_reserved.ensures.capacity) c.loop-column.invariant.room;
 }

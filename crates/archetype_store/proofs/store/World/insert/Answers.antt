@@ -13,7 +13,7 @@ change_one-requires-clause-can g c =
     let w = c.args.self.now.state in
     let v = c.into_value.result in
     let alive : is_alive w.slots c.args.e ≡ true = search rules in
-    can_insert w c.args.e alive c.now-now.ensures.world (the.Lives c.put_component.new.components) c.args.tick v c.requires.past
+    can_insert w c.args.e alive c.prove_shape.ensures (the.Lives c.put_component.new.components) c.args.tick v c.requires.past
     (c.in_ok-put_component.ensures ∙ ap (insert_component c.args.tick (value_number v) (value_words v)) c.in_ok-row.ensures)
 
 pub returns-clause-ok : goal.returns-clause-ok

@@ -3,9 +3,13 @@ use Rattle.std.specs.Prelude.{sum_by}
 use Rattle.std.specs.List.{AllByRecursion, list_any}
 use Rattle.model.specs.state.State.{most_indices}
 use Rattle.entity_table.specs.Ids.{living_count}
-use Rattle.entity_table.proofs.Counting.{count-length}
+use Rattle.entity_table.proofs.Counting.{count-alike, count-length}
 use Rattle.archetype_store.specs.LivingSets.{numbers_with, first_numbers, is_bare, entity_count}
 use Rattle.archetype_store.specs.Store.{StoreValue}
+use Rattle.archetype_store.specs.Inside.{slots_seen}
+use Rattle.archetype_store.specs.Rows.{rows_seen}
+use Rattle.archetype_store.specs.Storage.{row_of}
+use Rattle.entity_table.proofs.WithRows.{lives_at-with_rows}
 use Rattle.archetype_store.specs.View.{kinds_seen, entities_seen}
 use Rattle.archetype_store.proofs.EmptyEntityCount.{AreOthers, entities_of, entities_seen_are, laid_living, more_live, others_seen}
 use Rattle.archetype_store.proofs.LivingSets.{living_sets}
@@ -14,7 +18,7 @@ use Rattle.archetype_store.proofs.store.World.kind_sets.Goals.{After-deref}
 
 -- the views are of the archetypes
 seen : (c : After-deref) → map entities_seen c.in_ok-views.views.items ≡ map (λ a. a.entities) c.args.self.now.layout
-seen c = c.in_ok-views.ensures.entities ∙ ap (λ (w : StoreValue). map (λ a. a.entities) w.layout) c.self.view_is
+seen c = c.in_ok-views.ensures.entities
 
 -- no two entities of one are one
 others : (c : After-deref) → AllByRecursion (λ a. AreOthers a.entities) c.args.self.now.layout
@@ -28,19 +32,21 @@ pub entities_in-requires : goal.entities_in-requires
 entities_in-requires c =
     let a = (goal.at.entities_in-requires c).After-deref in
     let slots = c.args.self.now.state.slots in
-    let few : length slots ≤ most_indices = rw (ap (λ (w : StoreValue). length w.state.slots) (sym c.self.view_is)) c.self.invariant.few in
+    let few : length slots ≤ most_indices = rw (ap (λ (w : StoreValue). length w.state.slots) (sym c.self.view_is)) c.self.invariant.shape.few in
     omega (arith, few, count-length slots, laid_living slots c.args.self.now.layout c.prove_laid.ensures (others a), counted a)
 
 pub returns : goal.returns
 returns c =
     let a = (goal.at.returns c).After-deref in
+    let book = c.self.inside.ids in
+    let v = c.self.inside.rows in
     let slots = c.args.self.now.state.slots in
     let layout = c.args.self.now.layout in
     let without : nat_lt c.entities_in.result c.living-living.result ≡ list_any is_bare slots =
-    ap₂ nat_lt (c.entities_in.ensures ∙ counted a) (c.living-living.ensures ∙ ap (λ (w : StoreValue). living_count w.state.slots) c.self.view_is)
+    ap₂ nat_lt (c.entities_in.ensures ∙ counted a) (c.living-living.ensures ∙ sym (count-alike (slots_seen book v) book (lives_at-with_rows (row_of (rows_seen v).rows) book)) ∙ ap (λ (w : StoreValue). living_count w.state.slots) c.self.view_is)
     ∙ more_live slots layout c.prove_laid.ensures (others a) in
     c.in_ok-sets.ensures
     ∙ ap₂ numbers_with
-    (ap (map kinds_seen) c.deref-2.ensures.value ∙ c.in_ok-views.ensures.kinds ∙ ap (λ (w : StoreValue). map (λ a. a.kinds) w.layout) c.self.view_is)
+    (ap (map kinds_seen) c.deref-2.ensures.value ∙ c.in_ok-views.ensures.kinds)
     (ap first_numbers without)
     ∙ living_sets slots layout c.prove_laid.ensures

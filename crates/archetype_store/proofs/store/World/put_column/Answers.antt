@@ -1,20 +1,74 @@
-use Rattle.std.proofs.Common.{ap, ap₂, subst, ◌∙◌, sym}
+use Rattle.std.proofs.Common.{◌≡◌, false, length, Some, refl, sym, ap, ap₂, subst, ◌∙◌}
 use Rattle.std.specs.List.{AllByRecursion}
+use Rattle.std.proofs.lemmas.List.{length-map}
+use Rattle.column_store.specs.Table.{TableRow, homed}
+use Rattle.archetype_store.specs.Layout.{layout_of, archetype_at, column_home}
+use Rattle.archetype_store.specs.Storage.{IsFilled}
+use Rattle.archetype_store.specs.Store.{homed_in, slots_with, IsPast}
+use Rattle.archetype_store.specs.TableIndex.{IsIndexed}
+use Rattle.archetype_store.specs.Tables.{table_at}
+use Rattle.archetype_store.proofs.ArchetypeColumns.{away_there, entities_there, no_column, there_filled, value_homed}
+use Rattle.archetype_store.proofs.ColumnSlots.{rows_homed, slots_homed, world_homed}
+use Rattle.archetype_store.proofs.TableIndex.{set_indexed}
 use Rattle.kinds.specs.Components.{widths}
-use Rattle.model.specs.state.State.{World}
-use Rattle.archetype_store.specs.Layout.{archetype_at}
-use Rattle.archetype_store.specs.Store.{StoreValue, homed_in, with_slots, IsPast}
-use Rattle.archetype_store.proofs.ColumnSlots.{world_homed}
+use Rattle.archetype_store.specs.Rows.{RowsValue, rows_seen}
+use Rattle.archetype_store.specs.Store.{StoreValue}
+use Rattle.archetype_store.proofs.StoreKept.{store_kept, store_state}
 use Rattle.archetype_store.proofs.store.World.put_column.Goals as goal
+
+pub unreachable-requires : goal.unreachable-requires
+unreachable-requires c =
+    let T = c.self.inside.rows.tables in
+    let home : column_home (archetype_at (layout_of T) c.args.archetype) c.args.column.kind ≡ Some false = ap (λ (v : StoreValue). column_home (archetype_at v.layout c.args.archetype) c.args.column.kind) c.self.view_is ∙ c.requires.away in
+    no_column (layout_of T) c.args.archetype c.args.column.kind false (c.in_default.ensures T c.self.invariant.indexed) home
+
+pub home-requires-clause-away : goal.home-requires-clause-away
+home-requires-clause-away c =
+    let T = c.self.inside.rows.tables in
+    let at = c.in-Some.ensures T c.self.invariant.indexed in
+    let home : column_home (archetype_at (layout_of T) c.args.archetype) c.args.column.kind ≡ Some false = ap (λ (v : StoreValue). column_home (archetype_at v.layout c.args.archetype) c.args.column.kind) c.self.view_is ∙ c.requires.away in
+    away_there T c.args.archetype c.in-Some.table at c.args.column.kind home
+
+pub home-requires-clause-same_length : goal.home-requires-clause-same_length
+home-requires-clause-same_length c =
+    let T = c.self.inside.rows.tables in
+    let at = c.in-Some.ensures T c.self.invariant.indexed in
+    c.requires.same_length ∙ ap (λ (v : StoreValue). length (archetype_at v.layout c.args.archetype).entities) (sym c.self.view_is)
+    ∙ ap length (entities_there T c.args.archetype c.in-Some.table at) ∙ length-map (table_at T c.in-Some.table).rows (λ (row : TableRow). row.entity)
 
 pub invariant_of-self : goal.invariant_of-self
 invariant_of-self c =
-    let w : World = record { slots = c.self.inside.slots.slots; resources = c.self.inside.resources; clock = c.self.inside.clock } in
-    let past = subst (λ (v : StoreValue). AllByRecursion (IsPast v.state.clock) c.args.column.cells) (sym c.self.view_is) c.requires.past in
-    rw c.put_column.ensures.slots (world_homed widths w (archetype_at c.self.inside.slots.layout c.args.archetype).entities c.args.column.kind c.args.column.cells c.prove_law.ensures past c.self.invariant)
+    let book = c.self.inside.ids in
+    let v = c.self.inside.rows in
+    let a = rows_seen v in
+    let h = c.self.invariant in
+    let T = v.tables in
+    let at = c.in-Some.ensures T c.self.invariant.indexed in
+    let u = c.home.new.self in
+    let n = c.args.archetype in
+    let k = c.args.column.kind in
+    let cells = c.args.column.cells in
+    let filled = subst (λ (x : RowsValue). IsFilled a n k cells (rows_seen x)) (sym c.home.ensures) (value_homed T v.places n c.in-Some.table at c.args.column c.prove_rows.ensures.whole) in
+    let t = table_at T c.in-Some.table in
+    let past = subst (λ (x : StoreValue). AllByRecursion (IsPast x.state.clock) cells) (sym c.self.view_is) c.requires.past in
+    let es = (archetype_at (layout_of T) n).entities in
+    let indexed = subst (λ (x : RowsValue). IsIndexed x.tables c.self.inside.index) (sym c.home.ensures)
+    (set_indexed T c.in-Some.table (homed t c.args.column) c.self.inside.index refl (there_filled t.kinds k cells t.rows) h.indexed) in
+    store_kept h (slots_with es k cells) book u (slots_homed book a (rows_seen u) n k cells filled h.held) _ (rows_homed book a (rows_seen u) n k cells filled h.held) indexed (world_homed widths _ es k cells c.prove_widths.ensures past h.shape)
 
 pub returns : goal.returns
 returns c =
-    let w : World = record { slots = c.self.inside.slots.slots; resources = c.self.inside.resources; clock = c.self.inside.clock } in
-    ap₂ (λ slots layout. let v : StoreValue = record { state = with_slots (λ _. slots) w; layout = layout } in v) c.put_column.ensures.slots c.put_column.ensures.layout
-    ∙ ap (λ (v : StoreValue). homed_in v c.args.archetype c.args.column.kind c.args.column.cells) c.self.view_is
+    let book = c.self.inside.ids in
+    let v = c.self.inside.rows in
+    let a = rows_seen v in
+    let h = c.self.invariant in
+    let T = v.tables in
+    let at = c.in-Some.ensures T c.self.invariant.indexed in
+    let u = c.home.new.self in
+    let n = c.args.archetype in
+    let k = c.args.column.kind in
+    let cells = c.args.column.cells in
+    let filled = subst (λ (x : RowsValue). IsFilled a n k cells (rows_seen x)) (sym c.home.ensures) (value_homed T v.places n c.in-Some.table at c.args.column c.prove_rows.ensures.whole) in
+    let es = (archetype_at (layout_of T) n).entities in
+    ap₂ (λ state layout. let x : StoreValue = record { state = state; layout = layout } in x) (store_state h (slots_with es k cells) book u (slots_homed book a (rows_seen u) n k cells filled h.held) _ refl) filled.layout
+    ∙ ap (λ (x : StoreValue). homed_in x n k cells) c.self.view_is

@@ -22,7 +22,7 @@ change_one-requires-clause-can c =
     let w = c.args.self.now.state in
     let kind = kind_number c.args.kind in
     let alive : is_alive w.slots c.args.e ≡ true = search rules in
-    can_remove w c.args.e alive c.now-now.ensures.world (the.Lives c.take_component.new.components) kind
+    can_remove w c.args.e alive c.prove_shape.ensures (the.Lives c.take_component.new.components) kind
     (c.take_component.ensures ∙ ap (λ k. remove_component k (map component_of c.in_ok-row.row.items)) c.number.ensures ∙ ap (remove_component kind) c.in_ok-row.ensures)
 
 pub returns-clause-ok : goal.returns-clause-ok

@@ -10,7 +10,7 @@ use Rattle.archetype_store.specs.Store.{StoreValue}
 use Rattle.archetype_store.specs.Lending.{CanComeHome, AreTaken, all_away, all_home}
 use Rattle.archetype_store.proofs.ColumnLoans.{back_again, can_next, can_take, away_next, taken_next}
 use Rattle.std.proofs.lemmas.Result.{IfOk-from_err}
-use Rattle.archetype_store.proofs.SingleRowMove.{on_err_from}
+use Rattle.column_store.proofs.Turns.{on_err_from}
 use Rattle.archetype_store.proofs.store.World.take_written.Goals as goal
 
 pub take_column-requires : goal.take_column-requires
@@ -29,7 +29,7 @@ put_back-requires c =
     let ps = c.args.columns.now in
     let i = c.loop-at.at-index in
     let layout = c.args.self.now.layout in
-    let back = back_again c.args.self.now.state c.now-now.ensures.world layout (take i ps) c.loop-at.taken.items c.prove_laid.ensures (can_take layout ps i c.requires) c.loop-at.invariant.taken in
+    let back = back_again c.args.self.now.state c.prove_shape.ensures layout (take i ps) c.loop-at.taken.items c.prove_laid.ensures (can_take layout ps i c.requires) c.loop-at.invariant.taken in
     subst (CanComeHome c.loop-at.taken.items) (sym (c.in-Err.ensures.err ∙ c.loop-at.invariant.away)) back.1
 
 pub returns-in-Err-clause-err : goal.returns-in-Err-clause-err
@@ -37,7 +37,7 @@ returns-in-Err-clause-err c =
     let ps = c.args.columns.now in
     let i = c.loop-at.at-index in
     let layout = c.args.self.now.layout in
-    let back = back_again c.args.self.now.state c.now-now.ensures.world layout (take i ps) c.loop-at.taken.items c.prove_laid.ensures (can_take layout ps i c.requires) c.loop-at.invariant.taken in
+    let back = back_again c.args.self.now.state c.prove_shape.ensures layout (take i ps) c.loop-at.taken.items c.prove_laid.ensures (can_take layout ps i c.requires) c.loop-at.invariant.taken in
     c.put_back.ensures ∙ ap (all_home c.loop-at.taken.items) (c.in-Err.ensures.err ∙ c.loop-at.invariant.away) ∙ back.0
 
 pub loop-at-preserved : goal.loop-at-preserved

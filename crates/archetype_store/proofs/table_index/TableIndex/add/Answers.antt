@@ -7,7 +7,7 @@ use Rattle.archetype_store.specs.declared.table_index.TableIndex.{TableIndex}
 use Rattle.archetype_store.specs.TableIndex.{IsFound}
 use Rattle.archetype_store.proofs.TableIndex.{found_added, found_other}
 use Rattle.std.proofs.lemmas.Result.{IfOk-from_err}
-use Rattle.archetype_store.proofs.SingleRowMove.{on_err_from}
+use Rattle.column_store.proofs.Turns.{on_err_from}
 use Rattle.archetype_store.proofs.table_index.TableIndex.add.Goals as goal
 
 pub returns-in_err-reserve-2-clause-found : goal.returns-in_err-reserve-2-clause-found

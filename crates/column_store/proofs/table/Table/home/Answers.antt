@@ -1,31 +1,39 @@
-use Rattle.std.proofs.Common.{◌≡◌, length, map, Some, sym, ap, subst, ◌∙◌, arith}
-use Rattle.std.proofs.lemmas.List.{with_items_is}
+use Rattle.std.proofs.Common.{◌≡◌, None, Some, length, refl, map, set, sym, ap, subst, ◌∙◌}
 use Rattle.kinds.specs.Kind.{kind_number}
-use Rattle.column_store.specs.Table.{TableValue, standing_of}
+use Rattle.column_store.specs.Inside.{owned_slot, table_of, IsKindPlace}
+use Rattle.column_store.specs.Table.{TableValue, homed, standing_of}
 use Rattle.column_store.specs.Table.Standing.{Away}
+use Rattle.column_store.specs.Inside.{IsTable}
 use Rattle.column_store.proofs.Columns.{length-rows_of}
+use Rattle.column_store.proofs.Lists.{set-changed}
 use Rattle.column_store.proofs.Roomy.{no_spare}
 use Rattle.column_store.proofs.table.Table.home.Goals as goal
 
-pub home_in-requires-clause-same_length : goal.home_in-requires-clause-same_length
-home_in-requires-clause-same_length c =
-    c.requires.same_length ∙ sym (ap (λ (t : TableValue). length t.rows) c.self.view_is)
-    ∙ length-rows_of c.self.inside.entities.list c.self.inside.columns.items ∙ sym (ap length c.as_slice.ensures.entities)
-
-pub home_in-requires-clause-table : goal.home_in-requires-clause-table
-home_in-requires-clause-table c = rw (c.deref.ensures.value, c.as_slice.ensures.entities, c.deref_mut.ensures.value) c.self.invariant.kept.table
-
-pub home_in-requires-clause-away : goal.home_in-requires-clause-away
-home_in-requires-clause-away c =
-    rw (c.deref.ensures.value, c.deref_mut.ensures.value) (subst (λ (t : TableValue). standing_of t c.args.column.kind ≡ Some Away) (sym c.self.view_is) c.requires.away)
+pub unreachable-requires : goal.unreachable-requires
+unreachable-requires c =
+    let ns = map kind_number c.self.inside.kinds.items in
+    let es = c.self.inside.entities.list in
+    let ps = c.self.inside.columns.items in
+    let none : standing_of (table_of ns es ps) c.args.column.kind ≡ None = (rw (c.deref.ensures.value, c.kind.ensures) at c.in_default.ensures).standing es ps in
+    let away : standing_of (table_of ns es ps) c.args.column.kind ≡ Some Away = subst (λ (t : TableValue). standing_of t c.args.column.kind ≡ Some Away) (sym c.self.view_is) c.requires.away in
+    cc (none, away)
 
 pub invariant_of-self : goal.invariant_of-self
 invariant_of-self c =
-    let same : length c.home_in.new.columns ≡ c.self.inside.columns.len = (let a = c.home_in.auto.columns in let v = c.self.inside.columns.ok.0 in omega (arith, c.deref_mut.ensures.len)) in
-    rw (with_items_is c.self.inside.columns c.home_in.new.columns same)
-    (no_spare (map kind_number c.self.inside.kinds.items) c.self.inside.entities c.home_in.new.columns (rw (c.deref.ensures.value, c.as_slice.ensures.entities) at c.home_in.ensures.table))
+    let ns = map kind_number c.self.inside.kinds.items in
+    let es = c.self.inside.entities.list in
+    let ps = c.self.inside.columns.items in
+    let at : IsKindPlace ns es ps c.args.column.kind c.in-Some.place = (rw (c.deref.ensures.value, c.kind.ensures) at c.in-Some.ensures) es ps c.self.invariant.kept.table in
+    let many = c.requires.same_length ∙ sym (ap (λ (t : TableValue). length t.rows) c.self.view_is) ∙ length-rows_of es ps in
+    let is = set-changed (λ _. owned_slot c.args.column) ps c.in-Some.place (owned_slot c.args.column) c.of.result at.within c.of.ensures in
+    no_spare ns c.self.inside.entities (set ps c.in-Some.place c.of.result) (subst (IsTable ns es) (sym is) (at.homes_table c.args.column refl many))
 
 pub returns : goal.returns
 returns c =
-    let same : length c.home_in.new.columns ≡ c.self.inside.columns.len = (let a = c.home_in.auto.columns in let v = c.self.inside.columns.ok.0 in omega (arith, c.deref_mut.ensures.len)) in
-    rw (with_items_is c.self.inside.columns c.home_in.new.columns same, ← c.self.view_is) (rw (c.deref.ensures.value, c.as_slice.ensures.entities, c.deref_mut.ensures.value) at c.home_in.ensures.home)
+    let ns = map kind_number c.self.inside.kinds.items in
+    let es = c.self.inside.entities.list in
+    let ps = c.self.inside.columns.items in
+    let at : IsKindPlace ns es ps c.args.column.kind c.in-Some.place = (rw (c.deref.ensures.value, c.kind.ensures) at c.in-Some.ensures) es ps c.self.invariant.kept.table in
+    let many = c.requires.same_length ∙ sym (ap (λ (t : TableValue). length t.rows) c.self.view_is) ∙ length-rows_of es ps in
+    let is = set-changed (λ _. owned_slot c.args.column) ps c.in-Some.place (owned_slot c.args.column) c.of.result at.within c.of.ensures in
+    ap (table_of ns es) is ∙ at.homes c.args.column refl many ∙ ap (λ (t : TableValue). homed t c.args.column) c.self.view_is

@@ -1,24 +1,39 @@
-use Rattle.std.proofs.Common.{◌≡◌, length, sym, subst, arith}
-use Rattle.std.proofs.lemmas.List.{with_items_is}
+use Rattle.std.proofs.Common.{◌≡◌, get_or, map, set, sym, ap, subst, ◌∙◌}
 use Rattle.kinds.specs.Kind.{kind_number}
-use Rattle.column_store.specs.Table.{TableValue, IsHome, standing_of}
-use Rattle.column_store.proofs.Turns.{on_err_from}
+use Rattle.column_store.specs.Inside.{standing_at, seen_slot, IsKindPlace}
+use Rattle.column_store.specs.Table.{TableValue, lent, standing_of, IsHome}
+use Rattle.column_store.specs.Table.Standing.{Away}
+use Rattle.column_store.proofs.Found.{home_there, lent_kept, lent_table}
+use Rattle.column_store.proofs.Roomy.{no_spare}
 use Rattle.column_store.proofs.table.Table.lend.Goals as goal
 
-pub lend_in-requires-clause-table : goal.lend_in-requires-clause-table
-lend_in-requires-clause-table c = rw (c.deref.ensures.value, c.as_slice.ensures.entities, c.deref_mut.ensures.value) c.self.invariant.kept.table
+pub unreachable-requires : goal.unreachable-requires
+unreachable-requires c =
+    let es = c.self.inside.entities.list in
+    let ps = c.self.inside.columns.items in
+    let home = subst (λ (t : TableValue). IsHome (standing_of t (kind_number c.args.kind))) (sym c.self.view_is) c.requires in
+    home_there _ ((rw c.deref.ensures.value at c.in_default.ensures).standing es ps) home
 
-pub lend_in-requires-clause-home : goal.lend_in-requires-clause-home
-lend_in-requires-clause-home c =
-    rw (c.deref.ensures.value, c.deref_mut.ensures.value) (subst (λ (t : TableValue). IsHome (standing_of t (kind_number c.args.kind))) (sym c.self.view_is) c.requires)
-
-pub returns-in_err-column-clause-err : goal.returns-in_err-column-clause-err
-returns-in_err-column-clause-err c =
-    let same : length c.lend_in.new.columns ≡ c.self.inside.columns.len = (let a = c.lend_in.auto.columns in let v = c.self.inside.columns.ok.0 in omega (arith, c.deref_mut.ensures.len)) in
-    on_err_from c.from_residual.result _ (rw (with_items_is c.self.inside.columns c.lend_in.new.columns same, c.in_err-column.ensures.err, c.deref_mut.ensures.value) c.self.view_is)
+pub invariant_of-self-2 : goal.invariant_of-self-2
+invariant_of-self-2 c =
+    let ns = map kind_number c.self.inside.kinds.items in
+    let es = c.self.inside.entities.list in
+    let ps = c.self.inside.columns.items in
+    let at : IsKindPlace ns es ps (kind_number c.args.kind) c.in-Some.place = (rw c.deref.ensures.value at c.in-Some.ensures) es ps c.self.invariant.kept.table in
+    let p = c.index_mut.result.now in
+    let is : p ≡ get_or ps c.in-Some.place p = c.index_mut.ensures.value in
+    let q = c.lend.new.self in
+    let away = c.in_ok-column.ensures.away ∙ ap (λ x. standing_at Away (seen_slot x)) is in
+    no_spare ns c.self.inside.entities (set ps c.in-Some.place q) (lent_kept ns es ps (kind_number c.args.kind) c.in-Some.place at p q away c.self.invariant.kept.table)
 
 pub returns-clause-away : goal.returns-clause-away
 returns-clause-away c =
-    let same : length c.lend_in.new.columns ≡ c.self.inside.columns.len = (let a = c.lend_in.auto.columns in let v = c.self.inside.columns.ok.0 in omega (arith, c.deref_mut.ensures.len)) in
-    rw (with_items_is c.self.inside.columns c.lend_in.new.columns same, ← c.self.view_is)
-    (rw (c.deref.ensures.value, c.as_slice.ensures.entities, c.deref_mut.ensures.value) at c.in_ok-column.ensures.away)
+    let ns = map kind_number c.self.inside.kinds.items in
+    let es = c.self.inside.entities.list in
+    let ps = c.self.inside.columns.items in
+    let at : IsKindPlace ns es ps (kind_number c.args.kind) c.in-Some.place = (rw c.deref.ensures.value at c.in-Some.ensures) es ps c.self.invariant.kept.table in
+    let p = c.index_mut.result.now in
+    let is : p ≡ get_or ps c.in-Some.place p = c.index_mut.ensures.value in
+    let q = c.lend.new.self in
+    let away = c.in_ok-column.ensures.away ∙ ap (λ x. standing_at Away (seen_slot x)) is in
+    lent_table ns es ps (kind_number c.args.kind) c.in-Some.place at p q away ∙ ap (λ (t : TableValue). lent t (kind_number c.args.kind)) c.self.view_is

@@ -1,4 +1,4 @@
-use Rattle.std.proofs.Common.{◌≡◌, ◌+◌, ◌≤◌, true, length, map, sym, ap, ap₂, subst, ◌∙◌, Result, Ok, Err, OnErr, arith}
+use Rattle.std.proofs.Common.{◌≡◌, ◌+◌, ◌≤◌, true, length, map, sym, ap, ap₂, subst, ◌∙◌, arith}
 use Rattle.std.specs.List.{list_all, AllByRecursion}
 use Rattle.std.proofs.lemmas.List.{with_items_is}
 use Rattle.kinds.specs.Kind.{kind_number}
@@ -9,11 +9,8 @@ use Rattle.column_store.proofs.Edited.{all_owned}
 use Rattle.column_store.proofs.Kept.{kept-seen, roomier-seen}
 use Rattle.column_store.proofs.Roomy.{roomier_room, reserved_room, with_spare}
 use Rattle.column_store.proofs.Tables.{table-seen}
+use Rattle.column_store.proofs.Turns.{on_err_from}
 use Rattle.column_store.proofs.table.Table.reserve.Goals as goal
-
-err_from : {A E : Type 0} (r : Result A E) (P : Type 0) → P → OnErr r P
-err_from (Ok a) P p = tt
-err_from (Err e) P p = p
 
 pub reserve_rows-requires-clause-owned : goal.reserve_rows-requires-clause-owned
 reserve_rows-requires-clause-owned c =
@@ -42,7 +39,7 @@ returns-in_err-reserve_rows-clause-err c =
     let roomier = subst (λ qs. AreRoomier qs c.reserve_rows.new.columns) c.deref_mut.ensures.value c.reserve_rows.ensures.roomier in
     let list = ap (λ (v : EntityListValue). v.list) c.reserve.ensures.same in
     let seen = ap (λ xs. table_of ns xs c.reserve_rows.new.columns) list ∙ table-seen ns es.list ps c.reserve_rows.new.columns (roomier-seen ps c.reserve_rows.new.columns roomier) in
-    err_from c.from_residual-in_err-reserve_rows.result _
+    on_err_from c.from_residual-in_err-reserve_rows.result _
     (rw (with_items_is c.self.inside.columns c.reserve_rows.new.columns same) (ap (λ (t : TableValue). record t { room = c.self.inside.room }) seen ∙ c.self.view_is))
 
 pub invariant_of-self-2 : goal.invariant_of-self-2

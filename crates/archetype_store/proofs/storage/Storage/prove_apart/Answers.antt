@@ -1,9 +1,0 @@
-use Rattle.std.proofs.Common.{subst}
-use Rattle.std.specs.List.{AllByRecursion}
-use Rattle.column_store.specs.Order.{AreApart}
-use Rattle.archetype_store.specs.Storage.{StorageValue}
-use Rattle.archetype_store.proofs.RowNumbers.{layout_apart}
-use Rattle.archetype_store.proofs.storage.Storage.prove_apart.Goals as goal
-
-pub returns : goal.returns
-returns c = subst (λ (v : StorageValue). AllByRecursion (λ a. AreApart a.entities) v.layout) c.self.view_is (layout_apart c.self.inside.tables.items c.self.invariant.known.apart)

@@ -1,0 +1,9 @@
+use Rattle.std.proofs.Common.{subst}
+use Rattle.std.specs.List.{AllByRecursion}
+use Rattle.column_store.specs.Order.{AreApart}
+use Rattle.archetype_store.specs.Store.{StoreValue}
+use Rattle.archetype_store.proofs.RowNumbers.{layout_apart}
+use Rattle.archetype_store.proofs.store.World.prove_apart.Goals as goal
+
+pub returns : goal.returns
+returns c = subst (λ (v : StoreValue). AllByRecursion (λ a. AreApart a.entities) v.layout) c.self.view_is (layout_apart c.self.inside.rows.tables c.prove_rows.ensures.apart)

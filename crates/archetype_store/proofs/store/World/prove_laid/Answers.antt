@@ -1,0 +1,11 @@
+use Rattle.std.proofs.Common.{subst}
+use Rattle.archetype_store.specs.Layout.{IsLayoutOf}
+use Rattle.archetype_store.specs.Rows.{rows_seen}
+use Rattle.archetype_store.specs.Store.{StoreValue}
+use Rattle.archetype_store.proofs.TableLayouts.{laid_out, slots_laid}
+use Rattle.archetype_store.proofs.store.World.prove_laid.Goals as goal
+
+pub returns : goal.returns
+returns c =
+    let v = c.self.inside.rows in
+    subst (λ (x : StoreValue). IsLayoutOf x.state.slots x.layout) c.self.view_is (slots_laid c.self.inside.ids (rows_seen v) c.self.invariant.held (laid_out v.tables v.places c.prove_rows.ensures.whole))
