@@ -24,7 +24,7 @@ use Rattle.archetype_store.proofs.RowsHome.{cell_there, row_home}
 use Rattle.archetype_store.proofs.TablesAfterRowChange.{held_within, row_within, shape_at, cell_held, components_held}
 
 module _ {T : List TableValue} {P : List (Option EntityLocation)} {N : List ℕ} {shared : Bool} (h : AreKept T P N shared) (v : RowsValue) (seen : (let w : RowsValue = record { tables = T; places = P } in w) ≡ v)
-  (index : ℕ) (p : EntityLocation) (told : place_of v.places index ≡ Some p) where
+    (index : ℕ) (p : EntityLocation) (told : place_of v.places index ≡ Some p) where
   abbrev owner : Entity
   owner = record { index = index; generation = p.generation }
 

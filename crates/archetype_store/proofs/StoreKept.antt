@@ -37,7 +37,7 @@ module _ (w : World) (f : List Slot → List Slot) (slots : List Slot) (is : slo
 
 -- another book and other rows, whose slots are a function of those before
 module _ {book : List Slot} {v : RowsValue} {index : TableIndex} {resources : List Resource} {clock : ℕ} (h : IsStore book v index resources clock)
-  (f : List Slot → List Slot) (new : List Slot) (u : RowsValue) (is : slots_seen new u ≡ f (slots_seen book v)) where
+    (f : List Slot → List Slot) (new : List Slot) (u : RowsValue) (is : slots_seen new u ≡ f (slots_seen book v)) where
   -- the state
   pub store_state : (s : StoreValue) → store_seen book v resources clock ≡ s → (store_seen new u resources clock).state ≡ with_slots f s.state
   store_state s seen = other_state (store_seen book v resources clock).state f (slots_seen new u) is ∙ ap (λ (x : StoreValue). with_slots f x.state) seen

@@ -19,10 +19,10 @@ use Rattle.archetype_store.proofs.ColumnLoans.{back_again, taken_next, shared_ne
 use Rattle.archetype_store.proofs.ColumnOverlays.{entities_home}
 use Rattle.query_plan.specs.Picks.{Picked}
 use Rattle.body.specs.Columns.{Column}
-use Rattle.body.specs.Lent.{taken_of, lent_of}
-use Rattle.body.specs.Picked.{Spot, spot_of, spot_seen, picked_own, picked_read, own_column, read_column, IsOtherSpot, AreOtherSpots, AreSpotsHome, AreOwnOf, AreReadOf}
+use Rattle.body.specs.Lent.{taken_of, lent_of, with_away}
+use Rattle.body.specs.Picked.{Spot, spot_of, spot_seen, picked_own, picked_read, own_column, read_column, IsOtherSpot, AreOtherSpots, AreSpotsHome, AreOwnOf, AreReadOf, AreHeldOf}
 use Rattle.body.proofs.Lendings.{home_other}
-use Rattle.body.proofs.Pickings.{lent-held, can_share_read, own-than-read}
+use Rattle.body.proofs.Pickings.{lent-held, can_share_read, own-than-read, away-taken, all-held}
 
 -- ---- what is away
 
@@ -149,3 +149,17 @@ held-both w now own read before columns first away held =
       are = shared-over w.state.slots now.layout w.layout same read held.shared (subst (λ (s : World). AreShared s.slots now.layout read held.shared) (ap (λ (v : StoreValue). v.state) away) held.are);
       held = held.held ∙ ap (λ xs. before ++ xs) (read-over w now same held.shared);
     }
+
+-- so they are the columns of the picks
+pub held-of : (w now : StoreValue) (own read : List ColumnAt) (picks : List Picked) (before columns : List Column) → map spot_seen own ≡ map spot_of (picked_own picks) → map spot_seen read ≡ map spot_of (picked_read picks) → AreOwnOf w own before →
+    now ≡ record { state = w.state; layout = all_away own w.layout } → AreReadOf now read before columns → AreHeldOf w (picked_own picks ++ picked_read picks) columns
+held-of w now own read picks before columns o r first away second =
+    let both = held-both w now own read before columns first away second in
+    let is : columns ≡ map (own_column w) first.taken ++ map (read_column w) both.shared = both.held ∙ ap (λ xs. xs ++ map (read_column w) both.shared) first.held in
+    subst (AreHeldOf w (picked_own picks ++ picked_read picks)) (sym is) (all-held w w (λ m. refl) own read picks first.taken both.shared o r first.are both.are)
+
+-- and what is away is what they lend
+pub away-of : (w now : StoreValue) (own read : List ColumnAt) (before columns : List Column) → AreOwnOf w own before → AreReadOf now read before columns → all_away own w.layout ≡ with_away (lent_of columns) w.layout
+away-of w now own read before columns first second =
+    away-taken w.state.slots w.layout w.layout own first.taken first.are
+    ∙ ap (λ xs. with_away xs w.layout) (sym (read-lent now read before columns second ∙ ap lent_of first.held ∙ lent-own w first.taken))

@@ -33,6 +33,8 @@ pub(crate) struct PlanParts {
     pub(crate) requests: ColumnRequests,
     pub(crate) slots: Vec<ColumnIndex>,
     pub(crate) rows: Rows,
+    // Another for each plan of a state, and not 0.
+    pub(crate) mark: u64,
 }
 
 // The plan of a query over a world. It holds over each world with the same archetypes of the same entities.
@@ -130,7 +132,8 @@ impl KeptPlan {
         let list = take_list(&mut room.columns, alloc);
         let requests = &self.parts.requests;
         let columns = take_requested(alloc, self.parts.picks.as_slice(), requests, world, list)?;
-        Ok(ViewQuery::open(tick, &self.query, slots, rows, columns))
+        let query = ViewQuery::open(tick, &self.query, slots, rows, columns);
+        Ok(query.marked(self.parts.mark))
     }
 }
 

@@ -247,10 +247,11 @@ impl OpenState {
         if are_empty(buffers, order) {
             return Ok(());
         }
+        self.plans.clear();
         let passed = apply(alloc, &mut self.world, buffers, order, tick)?;
         self.passed_over = counted_on(self.passed_over, passed);
         self.plans.forget(&self.world);
-        self.room.queries.forget();
+        self.room.forget();
         Ok(())
     }
 
@@ -310,6 +311,7 @@ impl OpenState {
         ensures err { OnErr result (self.new ≡ self.old) }
     {
         let mut view = kept_or_blank(alloc, self.room.views.take(), params)?;
+        self.room.lend_order(system, &mut view);
         let mut plans = self.plans.take(alloc, system);
         let opened = view.open_planned(
             alloc,
@@ -422,6 +424,8 @@ impl OpenState {
         view.send(&mut self.events)?;
         let (registers, commands) = view.close(&mut self.world, &mut self.room.queries);
         keep_registers(&mut self.systems, system, registers);
+        self.room
+            .keep_order(*self.systems.allocator(), system, &mut view);
         self.room.views.give(view);
         Ok(commands)
     }

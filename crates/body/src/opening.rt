@@ -31,8 +31,13 @@ use query_plan::{Pick, Rows, shape_of};
 use std::alloc::{AllocError, Global};
 use std::snapshot::Snapshot;
 
-// The most row numbers, and places of archetypes in tables of columns, that are kept in all.
-pub(crate) const MOST_ROWS: usize = 1_048_576;
+// The most room that plans which are kept take in all, in listed rows.
+pub(crate) const MOST_ROOM: usize = 1_048_576;
+
+// How much room the numbers of the columns of an archetype take, and a pick with its place, in listed rows.
+const ROOM_OF_ARCHETYPE: usize = 10;
+
+const ROOM_OF_PICK: usize = 2;
 
 // The world as it is, without bytes.
 fn seen_now(world: &World) -> Snapshot<World>
@@ -44,24 +49,31 @@ fn seen_now(world: &World) -> Snapshot<World>
 // How many runs have to begin without a change of entities before plans are kept: the one that is on, and one before it.
 const CALM_RUNS: u32 = 2;
 
-// Whether the plan of a query with these rows, over a table of so many archetypes, is kept: no entity changed in the run before, it lasts, and
-// there is room for its numbers, which is then taken.
-fn is_kept(query: &Query, rows: &Rows, archetypes: u32, room: &mut QueryRoom) -> bool
-    ensures free { IsTrue result → IsStampFree query.now }
-    ensures kinds { IsTrue result → AsksForKinds query.now }
-{
-    if room.calm_runs < CALM_RUNS || !is_lasting(query) {
-        return false;
-    }
+// How much room a plan takes, in listed rows.
+fn room_of(rows: &Rows, picks: u32, archetypes: u32) -> usize {
     let listed = match rows.as_listed() {
         Some(listed) => listed.len(),
         None => 0,
     };
-    let many = listed.saturating_add(archetypes as usize);
-    if many > room.rows_left {
+    let tables = (archetypes as usize).saturating_add(1);
+    listed
+        .saturating_add(tables.saturating_mul(ROOM_OF_ARCHETYPE))
+        .saturating_add((picks as usize).saturating_mul(ROOM_OF_PICK))
+}
+
+// Whether the plan of a query that takes so much room is kept: no entity changed in the run before, it lasts, and there is room for it, which is
+// then taken.
+fn is_kept(query: &Query, size: usize, room: &mut QueryRoom) -> bool
+    ensures free { IsTrue result → IsStampFree query.now }
+    ensures kinds { IsTrue result → AsksForKinds query.now }
+{
+    if room.calm_runs < CALM_RUNS || room.room_left < size {
         return false;
     }
-    room.rows_left -= many;
+    if !is_lasting(query) {
+        return false;
+    }
+    room.room_left -= size;
     true
 }
 
@@ -111,6 +123,7 @@ fn parts_of(
         requests,
         slots,
         rows,
+        mark: room.next_mark(),
     })
 }
 
@@ -156,7 +169,8 @@ pub(crate) fn open_query(
         plan.archetypes as usize + 1,
     )?;
     let found = Rows::of(alloc, plan.rows, world)?;
-    let lasts = is_kept(query, &found, plan.archetypes, room);
+    let size = room_of(&found, count, plan.archetypes);
+    let lasts = is_kept(query, size, room);
     let rows = readied(alloc, found, lasts)?;
     let columns = take_picked(alloc, plan.picks.as_slice(), world, room)?;
     fill_slots(&mut slots, query.terms(), columns.as_slice(), count);

@@ -53,7 +53,14 @@ impl Plans {
         }
     }
 
-    // Forgets all plans: those that come are over this world.
+    // Drops all plans, so that nobody reads the rows of tables that are to change.
+    pub(crate) fn clear(&mut self)
+        ensures { self.new ≡ self.old }
+    {
+        self.systems.clear();
+    }
+
+    // Drops all plans: those that come are over this world.
     pub(crate) fn forget(&mut self, world: &World)
         ensures { self.new ≡ forms_of world.now.layout }
     {

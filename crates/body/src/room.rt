@@ -3,7 +3,8 @@
 ghost use Rattle.std.specs.Prelude.{◌≡◌};
 
 use crate::columns::ColumnRequests;
-use crate::opening::MOST_ROWS;
+use crate::opening::MOST_ROOM;
+use crate::row_order::RowOrder;
 use crate::view::View;
 use crate::view_column::ViewColumn;
 use crate::view_query::ColumnIndex;
@@ -24,8 +25,10 @@ pub struct QueryRoom {
     pub(crate) columns: Spares<Vec<ViewColumn>>,
     /// How many runs have begun since entities changed.
     pub(crate) calm_runs: u32,
-    /// How many more row numbers, and places of archetypes, may be kept in plans.
-    pub(crate) rows_left: usize,
+    /// How much room there is for plans that are kept, in listed rows.
+    pub(crate) room_left: usize,
+    /// The mark of the plan that was kept last.
+    pub(crate) mark: u64,
 }
 
 impl QueryRoom {
@@ -37,7 +40,13 @@ impl QueryRoom {
     // Entities changed: plans are no more kept.
     pub(crate) fn forget(&mut self) {
         self.calm_runs = 0;
-        self.rows_left = MOST_ROWS;
+        self.room_left = MOST_ROOM;
+    }
+
+    // The mark of a plan that is kept.
+    pub(crate) fn next_mark(&mut self) -> u64 {
+        self.mark = self.mark.saturating_add(1);
+        self.mark
     }
 
     /// Nothing is kept.
@@ -51,7 +60,8 @@ impl QueryRoom {
             slots: Spares::new(alloc),
             columns: Spares::new(alloc),
             calm_runs: 0,
-            rows_left: MOST_ROWS,
+            room_left: MOST_ROOM,
+            mark: 0,
         }
     }
 }
@@ -63,6 +73,8 @@ pub(crate) struct Room {
     pub(crate) queries: QueryRoom,
     /// Views that are closed.
     pub(crate) views: Spares<Box<View>>,
+    /// The order of rows of each system by number, where it is that of a plan that is kept.
+    orders: Vec<RowOrder>,
 }
 
 impl Room {
@@ -73,6 +85,37 @@ impl Room {
         Room {
             queries: QueryRoom::new(alloc),
             views: Spares::new(alloc),
+            orders: Vec::new(alloc),
         }
+    }
+
+    // Lends the order of a system to a view.
+    pub(crate) fn lend_order(&mut self, system: usize, view: &mut View) {
+        if let Some(order) = self.orders.get_mut(system) {
+            if order.is_kept() {
+                view.swap_order(order);
+            }
+        }
+    }
+
+    // Keeps the order of a view of a system, where it is that of a plan that is kept, and there is memory for its place.
+    pub(crate) fn keep_order(&mut self, alloc: Global, system: usize, view: &mut View) {
+        if !view.has_kept_order() {
+            return;
+        }
+        while self.orders.len() <= system {
+            if self.orders.push(RowOrder::new(alloc)).is_err() {
+                return;
+            }
+        }
+        if let Some(order) = self.orders.get_mut(system) {
+            view.swap_order(order);
+        }
+    }
+
+    // Entities changed.
+    pub(crate) fn forget(&mut self) {
+        self.queries.forget();
+        self.orders.clear();
     }
 }

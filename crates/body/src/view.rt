@@ -45,6 +45,7 @@ use event_buffers::{EventLists, Events, SendFault};
 use kinds::{Component, Event, Fields, Kind, Res, Value};
 use std::alloc::{AllocError, Global};
 use std::marker::Model;
+use std::mem;
 
 /// A system reads the world through a view, as shown at its start, and writes into it. Contracts see the parameters,
 /// what is shown, the outcome so far, and what it was opened over.
@@ -516,6 +517,18 @@ impl View {
         ensures { self.new ≡ self.old }
     {
         self.order.take()
+    }
+
+    // Whether its order is that of a plan that is kept.
+    pub(crate) fn has_kept_order(&self) -> bool {
+        self.order.is_kept()
+    }
+
+    // Swaps its order with this one.
+    pub(crate) fn swap_order(&mut self, order: &mut RowOrder)
+        ensures { self.new ≡ self.old }
+    {
+        mem::swap(&mut self.order, order);
     }
 
     /// Keeps an order that is done with, so that the next one has its list.

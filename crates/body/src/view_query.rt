@@ -46,6 +46,8 @@ struct RowSource {
     rows: Rows,
     // How many rows stand in turn, one with another, as far as was looked: where many do they are read and written in one go, else each by itself.
     turn: usize,
+    // The mark of the plan that is kept of it, else 0.
+    mark: u64,
 }
 
 /// A query of a view. Contracts see its terms, its rows as they were shown, and what was written in them. They also
@@ -113,10 +115,20 @@ impl ViewQuery {
                 slots,
                 rows,
                 turn,
+                mark: 0,
             },
             columns,
             taken,
         }
+    }
+
+    // The same of a plan that is kept under a mark.
+    pub(crate) fn marked(self, mark: u64) -> Self
+        ensures { result ≡ self }
+    {
+        let mut query = self;
+        query.source.mark = mark;
+        query
     }
 
     /// How many rows there are.
@@ -311,7 +323,7 @@ impl ViewQuery {
         if self.source.turn >= LONG_TURN {
             return Ok(false);
         }
-        order.put(&self.source.rows)
+        order.put_marked(&self.source.rows, self.source.mark)
     }
 
     // How many of the rows with these numbers stand in turn, from the first on.

@@ -112,10 +112,11 @@ impl OpenState {
         let _now = self.world.now();
         let row = row_at(alloc, values, tick)?;
         let Ok(_) = self.next() else { unreachable!() };
+        self.plans.clear();
         match self.world.spawn(alloc, row) {
             Ok(entity) => {
                 self.plans.forget(&self.world);
-                self.room.queries.forget();
+                self.room.forget();
                 Ok(entity)
             }
             Err(fault) => {

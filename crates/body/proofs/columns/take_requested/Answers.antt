@@ -1,14 +1,12 @@
-use Rattle.std.proofs.Common.{List, ◌++◌, map, refl, sym, ap, ◌∙◌, subst}
+use Rattle.std.proofs.Common.{List, map, sym, ap, ◌∙◌, subst}
 use Rattle.archetype_store.specs.Layout.{Archetype}
 use Rattle.archetype_store.specs.Lending.{CanShare}
 use Rattle.archetype_store.specs.Store.{StoreValue}
 use Rattle.archetype_store.proofs.SingleRowMove.{on_err_from}
 use Rattle.query_plan.specs.Picks.{pick_seen}
 use Rattle.body.specs.HeldColumns.{held_seen}
-use Rattle.body.specs.Lent.{lent_of, with_away}
-use Rattle.body.specs.Picked.{read_column, picked_own, picked_read, AreHeldOf}
-use Rattle.body.proofs.HeldPicks.{own-can, own-back, can-share-after, held-both, lent-own, read-lent}
-use Rattle.body.proofs.Pickings.{can_take_own, away-taken, all-held}
+use Rattle.body.proofs.HeldPicks.{held-of, away-of, own-can, own-back, can-share-after}
+use Rattle.body.proofs.Pickings.{can_take_own}
 use Rattle.body.proofs.columns.take_requested.Goals as goal
 
 pub hold_own-requires-clause-can : goal.hold_own-requires-clause-can
@@ -38,32 +36,21 @@ hold_read-requires-clause-lent c =
 pub returns-clause-held : goal.returns-clause-held
 returns-clause-held c =
     let w = c.args.world.now in
-    let own = c.args.requests.now.own.items in
-    let read = c.args.requests.now.read.items in
-    let picks = map pick_seen c.args._picks.now in
     let away = rw (c.deref.ensures.value) at c.in_ok-own.ensures.away in
     let first = rw (c.deref.ensures.value) at c.in_ok-own.ensures.held in
-    let before = map held_seen c.in_ok-own.own.items in
-    let columns = map held_seen c.in_ok-held.held.items in
     let second = rw (c.deref-2.ensures.value) at c.in_ok-held.ensures.held in
-    let both = held-both w c.hold_own.new.world own read before columns first away second in
-    subst (AreHeldOf w (picked_own picks ++ picked_read picks)) (sym (both.held ∙ ap (λ xs. xs ++ map (read_column w) both.shared) first.held))
-    (all-held w w (λ m. refl) own read picks first.taken both.shared c.requires.requests.own_are c.requires.requests.read_are first.are both.are)
+    held-of w c.hold_own.new.world c.args.requests.now.own.items c.args.requests.now.read.items (map pick_seen c.args._picks.now) (map held_seen c.in_ok-own.own.items) (map held_seen c.in_ok-held.held.items) c.requires.requests.own_are
+    c.requires.requests.read_are first away second
 
 pub returns-clause-away : goal.returns-clause-away
 returns-clause-away c =
     let w = c.args.world.now in
-    let own = c.args.requests.now.own.items in
-    let read = c.args.requests.now.read.items in
     let away = rw (c.deref.ensures.value) at c.in_ok-own.ensures.away in
     let first = rw (c.deref.ensures.value) at c.in_ok-own.ensures.held in
-    let before = map held_seen c.in_ok-own.own.items in
-    let columns = map held_seen c.in_ok-held.held.items in
     let second = rw (c.deref-2.ensures.value) at c.in_ok-held.ensures.held in
-    let lent = read-lent c.hold_own.new.world read before columns second ∙ ap lent_of first.held ∙ lent-own w first.taken in
     c.in_ok-held.ensures.same ∙ away
     ∙ ap (λ (layout : List Archetype). let x : StoreValue = record { state = w.state; layout = layout } in x)
-    (away-taken w.state.slots w.layout w.layout own first.taken first.are ∙ ap (λ xs. with_away xs w.layout) (sym lent))
+    (away-of w c.hold_own.new.world c.args.requests.now.own.items c.args.requests.now.read.items (map held_seen c.in_ok-own.own.items) (map held_seen c.in_ok-held.held.items) first second)
 
 -- where a column can't be shared those that were taken are home again
 pub returns-in_err-held-clause-err : goal.returns-in_err-held-clause-err

@@ -8,7 +8,7 @@ use Rattle.body.specs.HeldColumns.{held_seen, slots_seen}
 use Rattle.body.specs.KeptPlans.{KeptSeen}
 use Rattle.body.specs.Opened.{ArePickedOf}
 use Rattle.body.specs.Picked.{AreRequestsOf, picked_own, picked_read, AreSpotsHome, AreOtherSpots, AreHeldOf}
-use Rattle.body.specs.Sheet.{IsPlan, row_of}
+use Rattle.body.specs.Sheet.{Sheet, IsPlan, row_of}
 use Rattle.body.proofs.KeptPlans.{kept-picks, kept-taken, kept-opens}
 use Rattle.body.proofs.Pickings.{picks-others}
 use Rattle.body.proofs.kept_plan.KeptPlan.open.Goals as goal
@@ -32,8 +32,8 @@ take_requested-requires-clause-others c =
     let are = ap (map pick_seen) c.as_slice.ensures.value ∙ kept-picks p.query p.world.value w (map pick_seen p.parts.picks.items) tables p.parts.rows c.self.invariant.plan same in
     subst AreOtherSpots (sym are) (picks-others w.state.slots p.query w.layout c.prove_laid.ensures)
 
-pub open-requires : goal.open-requires
-open-requires c =
+pub open-query-requires : goal.open-query-requires
+open-query-requires c =
     let w = c.args.world.now in
     let p = c.self.inside in
     let columns = map held_seen c.in_ok-columns.columns.items in
@@ -54,7 +54,8 @@ returns-clause-rows c = λ last.
     let held = subst (λ ps. AreHeldOf w (picked_own (map pick_seen ps) ++ picked_read (map pick_seen ps)) columns) c.as_slice.ensures.value c.in_ok-columns.ensures.held in
     let slots : map slots_seen c.in_ok-slots.slots.items ≡ tables = ap (map slots_seen) (c.in_ok-slots.ensures ∙ c.deref.ensures.value) in
     let shown = (kept-opens p.query p.world.value w (map pick_seen p.parts.picks.items) tables p.parts.rows columns c.self.invariant.plan same c.prove_laid.ensures held c.args.tick last c.now-now.ensures.world c.prove_apart.ensures c.requires.coming).1 in
-    c.«open».ensures.rows
+    ap (λ (s : Sheet). s.rows) c.marked.ensures
+    ∙ c.open-query.ensures.rows
     ∙ ap (λ ts. map (row_of ts columns p.query) c.in_ok-rows.rows) slots
     ∙ ap (λ (rs : List Row). map (row_of tables columns p.query) rs) c.in_ok-rows.ensures
     ∙ shown
@@ -69,7 +70,7 @@ returns-clause-taken c =
     let same = ap (λ (s : KeptSeen). s.forms) c.self.view_is ∙ c.requires.forms in
     let held = subst (λ ps. AreHeldOf w (picked_own (map pick_seen ps) ++ picked_read (map pick_seen ps)) columns) c.as_slice.ensures.value c.in_ok-columns.ensures.held in
     let taken = kept-taken p.query p.world.value w (map pick_seen p.parts.picks.items) tables p.parts.rows columns c.self.invariant.plan same c.prove_laid.ensures held in
-    subst (λ (ts : List Term). ArePickedOf ts w c.«open».result.taken) (ap (λ (s : KeptSeen). s.terms) c.self.view_is) (subst (ArePickedOf p.query w) (sym c.«open».ensures.taken) taken)
+    subst (λ (ts : List Term). ArePickedOf ts w c.marked.result.taken) (ap (λ (s : KeptSeen). s.terms) c.self.view_is) (subst (ArePickedOf p.query w) (sym (ap (λ (s : Sheet). s.taken) c.marked.ensures ∙ c.open-query.ensures.taken)) taken)
 
 pub take_requested-requires-clause-requests : goal.take_requested-requires-clause-requests
 take_requested-requires-clause-requests c =
