@@ -45,7 +45,23 @@ pub(crate) fn put_columns(columns: Vec<ViewColumn>, world: &mut World) -> Vec<Vi
 
 // Brings the columns of queries home, with what was written there: all of it is in columns that the world lent. No query is left, and the room of
 // their list stays. Their own lists go to this room.
+#[inline(always)]
 pub(crate) fn put_home(queries: &mut Vec<ViewQuery>, world: &mut World, room: &mut QueryRoom)
+    requires { CanComeHome (lent_after queries.old.items) world.old }
+    ensures home { world.new ≡ all_home (lent_after queries.old.items) world.old }
+    ensures reach { AllByRecursion (λ (s : Sheet). WritesReach (words_of_sheet s) s.taken)
+        queries.old.items }
+    ensures none { queries.new.items ≡ [] }
+{
+    if queries.is_empty() {
+        return;
+    }
+    put_each_home(queries, world, room);
+}
+
+// The same query by query, the last first.
+#[inline(never)]
+fn put_each_home(queries: &mut Vec<ViewQuery>, world: &mut World, room: &mut QueryRoom)
     requires { CanComeHome (lent_after queries.old.items) world.old }
     ensures home { world.new ≡ all_home (lent_after queries.old.items) world.old }
     ensures reach { AllByRecursion (λ (s : Sheet). WritesReach (words_of_sheet s) s.taken)

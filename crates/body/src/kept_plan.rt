@@ -33,6 +33,8 @@ pub(crate) struct PlanParts {
     pub(crate) requests: ColumnRequests,
     pub(crate) slots: Vec<ColumnIndex>,
     pub(crate) rows: Rows,
+    // How many rows stand in turn, one with another, as far as was looked.
+    pub(crate) turn: usize,
     // Another for each plan of a state, and not 0.
     pub(crate) mark: u64,
 }
@@ -132,7 +134,8 @@ impl KeptPlan {
         let list = take_list(&mut room.columns, alloc);
         let requests = &self.parts.requests;
         let columns = take_requested(alloc, self.parts.picks.as_slice(), requests, world, list)?;
-        let query = ViewQuery::open(tick, &self.query, slots, rows, columns);
+        let turn = self.parts.turn;
+        let query = ViewQuery::open_by(tick, &self.query, slots, rows, columns, turn);
         Ok(query.marked(self.parts.mark))
     }
 }

@@ -2,6 +2,7 @@
 
 ghost use Rattle.std.specs.Prelude.{◌≡◌, ◌<◌, ℕ, List, [], true, map, IfOk, IfSome, IsTrue, OnOk, OnErr};
 ghost use Rattle.std.specs.List.{AllByRecursion};
+ghost use Rattle.std.specs.Vec.{vec_len};
 ghost use Rattle.model.specs.shown.Input.{rows_of};
 ghost use Rattle.model.specs.access.SelfConflict.{TwoConflictAt};
 ghost use Rattle.model.specs.shown.Outcome.{untouched_rows, untouched_cells};
@@ -21,6 +22,7 @@ use crate::columns::{ColumnRequests, take_picked};
 use crate::kept_plan::{KeptPlan, PlanParts, is_lasting, keep, slots_again};
 use crate::room::QueryRoom;
 use crate::slot_table::{fill_slots, no_slots};
+use crate::turns::turn_length;
 use crate::view_query::{ColumnIndex, ViewQuery};
 use archetype_store::World;
 use change_ticks::Tick;
@@ -118,11 +120,13 @@ fn parts_of(
     if requests.fill(picks.as_slice()).is_err() {
         return None;
     }
+    let turn = turn_length(&rows);
     Some(PlanParts {
         picks,
         requests,
         slots,
         rows,
+        turn,
         mark: room.next_mark(),
     })
 }
@@ -225,6 +229,17 @@ fn open_next(
     }
 }
 
+// Leaves no query in a list, mostly one that has none.
+#[inline(always)]
+fn clear_list(opened: &mut Vec<ViewQuery>)
+    ensures items { opened.new.items ≡ [] }
+    ensures len { vec_len opened.new ≡ 0 }
+{
+    if !opened.is_empty() {
+        opened.clear();
+    }
+}
+
 // Queries as they are opened over a world at a tick to come, in the room of a list. Where the plan of one is kept it is opened by it, else its plan
 // is kept if it lasts. After an error the world is as it was, and the list is empty.
 pub(crate) fn open_queries(
@@ -267,7 +282,7 @@ pub(crate) fn open_queries(
     // Tell how the layout is that of the state, and that no stamp is above the clock.
     world.prove_laid();
     let _now = world.now();
-    opened.clear();
+    clear_list(opened);
     opened.reserve(queries.len())?;
     for query in queries {
         match open_next(alloc, query, world, last_run, tick, room, plans) {

@@ -60,8 +60,9 @@ impl ViewCommands {
         ensures { OnOk result (self.new
             ≡ record { spawns = params.now.spawns; granted = granted.now; commands = [] }) }
     {
-        self.granted.clear();
-        self.granted.extend_from_slice(granted)?;
+        if !self.granted.is_empty() || !granted.is_empty() {
+            refill(&mut self.granted, granted)?;
+        }
         self.spawns = params.spawns();
         self.commands = commands;
         Ok(())
@@ -129,4 +130,13 @@ impl ViewCommands {
         let none = CommandBuffer::new(*self.granted.allocator());
         mem::replace(&mut self.commands, none)
     }
+}
+
+// These entities, in the room of those before.
+#[inline(never)]
+fn refill(list: &mut Vec<Entity>, entities: &[Entity]) -> Result<(), AllocError>
+    ensures { OnOk result (list.new.items ≡ entities.now) }
+{
+    list.clear();
+    list.extend_from_slice(entities)
 }

@@ -106,8 +106,30 @@ impl ViewQuery {
         ensures taken { result.taken ≡ map held_seen columns.items }
         ensures tick { result.tick ≡ tick }
     {
-        let taken = Snapshot::of(&columns);
         let turn = turn_length(&rows);
+        ViewQuery::open_by(tick, query, slots, rows, columns, turn)
+    }
+
+    // The same where it is known how many rows stand in turn.
+    pub(crate) fn open_by(
+        tick: Tick,
+        query: &Query,
+        slots: Vec<ColumnIndex>,
+        rows: Rows,
+        columns: Vec<ViewColumn>,
+        turn: usize,
+    ) -> Self
+        requires { IsPlan tick query.now (map slots_seen slots.items) rows (map held_seen
+            columns.items) }
+        ensures terms { result.terms ≡ query.now }
+        ensures rows { result.rows
+            ≡ map (row_of (map slots_seen slots.items) (map held_seen columns.items) query.now)
+            rows }
+        ensures untouched { result.cells ≡ untouched_rows result.terms result.rows }
+        ensures taken { result.taken ≡ map held_seen columns.items }
+        ensures tick { result.tick ≡ tick }
+    {
+        let taken = Snapshot::of(&columns);
         ViewQuery {
             source: RowSource {
                 tick,

@@ -242,6 +242,7 @@ fn take(
 }
 
 // Takes a step that may come and is no sync point, and records it.
+#[inline(always)]
 fn note(core: &mut Core<'_>, trace: &mut Trace, step: Step) -> Result<(), AllocError>
     requires plain { IsPlainStep trace.old.sets step }
     requires stands { Stands core.old trace.old.sets trace.old.steps }

@@ -161,14 +161,22 @@ impl EventLists {
         Ok(())
     }
 
-    // Puts every list away, the last first, so that each is taken at its place again. From then on there is room for so many lists, and to put
-    // them away.
+    // Puts every list away. From then on there is room for so many lists, and to put them away.
+    #[inline(always)]
     fn put_away(&mut self, count: usize) -> Result<(), AllocError>
         ensures { OnOk result (self.new ≡ record { kinds = []; values = [] }) }
     {
         if count == 0 && self.lists.is_empty() {
             return Ok(());
         }
+        self.put_each_away(count)
+    }
+
+    // The same list by list: the last first, so that each is taken at its place again.
+    #[inline(never)]
+    fn put_each_away(&mut self, count: usize) -> Result<(), AllocError>
+        ensures { OnOk result (self.new ≡ record { kinds = []; values = [] }) }
+    {
         while let Some(list) = self.lists.pop() {
             self.spare.push(list)?;
         }

@@ -182,6 +182,7 @@ impl<'a> Core<'a> {
     }
 
     /// Takes a step of which it is known that it may come, as `step` does, and judges nothing again.
+    #[inline(always)]
     pub fn accept(&mut self, step: Step)
         requires { (sets : Option (List (List ℕ))) × (h : List Step) × Stands self.old sets h
             × May (recording self.old.schedule sets) h step }
@@ -405,6 +406,7 @@ impl<'a> Core<'a> {
     }
 
     // Notes an accepted step.
+    #[inline(always)]
     fn take(&mut self, step: Step)
         requires { IsKnown self.old.schedule step }
         ensures schedule { self.new.schedule ≡ self.old.schedule }

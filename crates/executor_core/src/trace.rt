@@ -1,6 +1,7 @@
 // What is recorded of a run.
 
-ghost use Rattle.std.specs.Prelude.{◌≡◌, ◌∷◌, [], reverse, IfOk, OnErr, OnOk, None, Some, option_map};
+ghost use Rattle.std.specs.Prelude.{◌≡◌, ◌<◌, ◌∷◌, [], reverse, IfOk, OnErr, OnOk, None, Some, option_map};
+ghost use Rattle.std.specs.Vec.{vec_len, vec_capacity};
 ghost use Rattle.model.specs.declared.steps.Step.TheVariants.{Sync as Synced};
 ghost use Rattle.executor_core.specs.Stands.{AreListed, IsPlainStep, room};
 ghost use Rattle.executor_core.specs.Traces.{latest_list, with_list};
@@ -87,7 +88,10 @@ impl Trace {
         ensures sets { OnOk result (self.new.sets ≡ self.old.sets) }
         ensures err { OnErr result (self.new ≡ self.old) }
     {
-        self.steps.push(step)?;
+        if self.steps.len() == self.steps.capacity() {
+            make_room(&mut self.steps)?;
+        }
+        self.steps.push_reserved(step);
         Ok(())
     }
 
@@ -142,6 +146,16 @@ impl Trace {
     {
         let _ = &self.steps;
     }
+}
+
+// Makes room for a step more, where there is none.
+#[cold]
+#[inline(never)]
+fn make_room(steps: &mut Vec<Step>) -> Result<(), AllocError>
+    ensures items { steps.new.items ≡ steps.old.items }
+    ensures room { OnOk result (vec_len steps.new < vec_capacity steps.new) }
+{
+    steps.reserve(1)
 }
 
 // How many steps a run of a schedule has at most: each condition is asked once, each system starts and ends, each sync point is done.

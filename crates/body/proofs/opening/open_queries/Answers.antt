@@ -17,9 +17,9 @@ use Rattle.body.proofs.opening.open_queries.Goals as goal
 
 pub loop-query-init : goal.loop-query-init
 loop-query-init c = record {
-  opened = opened-none c.args.tick c.args.last_run c.args.world.now c.reserve.new.self.items (c.reserve.ensures.items ∙ c.clear.ensures.items);
-  many = c.reserve.ensures.len ∙ c.clear.ensures.len;
-  room = let e = c.in_ok-reserve.ensures.ok in let none = c.clear.ensures.len in let same = c.reserve.ensures.len in omega arith;
+  opened = opened-none c.args.tick c.args.last_run c.args.world.now c.reserve.new.self.items (c.reserve.ensures.items ∙ c.clear_list.ensures.items);
+  many = c.reserve.ensures.len ∙ c.clear_list.ensures.len;
+  room = let e = c.in_ok-reserve.ensures.ok in let none = c.clear_list.ensures.len in let same = c.reserve.ensures.len in omega arith;
   planned = c.requires.planned;
 }
 

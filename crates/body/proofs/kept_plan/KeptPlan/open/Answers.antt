@@ -55,7 +55,7 @@ returns-clause-rows c = λ last.
     let slots : map slots_seen c.in_ok-slots.slots.items ≡ tables = ap (map slots_seen) (c.in_ok-slots.ensures ∙ c.deref.ensures.value) in
     let shown = (kept-opens p.query p.world.value w (map pick_seen p.parts.picks.items) tables p.parts.rows columns c.self.invariant.plan same c.prove_laid.ensures held c.args.tick last c.now-now.ensures.world c.prove_apart.ensures c.requires.coming).1 in
     ap (λ (s : Sheet). s.rows) c.marked.ensures
-    ∙ c.open-query.ensures.rows
+    ∙ c.open_by-query.ensures.rows
     ∙ ap (λ ts. map (row_of ts columns p.query) c.in_ok-rows.rows) slots
     ∙ ap (λ (rs : List Row). map (row_of tables columns p.query) rs) c.in_ok-rows.ensures
     ∙ shown
@@ -70,7 +70,7 @@ returns-clause-taken c =
     let same = ap (λ (s : KeptSeen). s.forms) c.self.view_is ∙ c.requires.forms in
     let held = subst (λ ps. AreHeldOf w (picked_own (map pick_seen ps) ++ picked_read (map pick_seen ps)) columns) c.as_slice.ensures.value c.in_ok-columns.ensures.held in
     let taken = kept-taken p.query p.world.value w (map pick_seen p.parts.picks.items) tables p.parts.rows columns c.self.invariant.plan same c.prove_laid.ensures held in
-    subst (λ (ts : List Term). ArePickedOf ts w c.marked.result.taken) (ap (λ (s : KeptSeen). s.terms) c.self.view_is) (subst (ArePickedOf p.query w) (sym (ap (λ (s : Sheet). s.taken) c.marked.ensures ∙ c.open-query.ensures.taken)) taken)
+    subst (λ (ts : List Term). ArePickedOf ts w c.marked.result.taken) (ap (λ (s : KeptSeen). s.terms) c.self.view_is) (subst (ArePickedOf p.query w) (sym (ap (λ (s : Sheet). s.taken) c.marked.ensures ∙ c.open_by-query.ensures.taken)) taken)
 
 pub take_requested-requires-clause-requests : goal.take_requested-requires-clause-requests
 take_requested-requires-clause-requests c =

@@ -1,7 +1,7 @@
 use Rattle.std.proofs.Common.{map}
 use Rattle.body.specs.HeldColumns.{held_seen, slots_seen}
 use Rattle.body.proofs.SheetOpens.{untouched-of}
-use Rattle.body.proofs.view_query.ViewQuery.open.Goals as goal
+use Rattle.body.proofs.view_query.ViewQuery.open_by.Goals as goal
 
 pub returns-clause-untouched : goal.returns-clause-untouched
 returns-clause-untouched c =

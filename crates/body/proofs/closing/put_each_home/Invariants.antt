@@ -4,7 +4,7 @@ use Rattle.archetype_store.specs.Lending.{CanComeHome, all_home}
 use Rattle.body.specs.Lent.{lent_after}
 use Rattle.body.specs.Sheet.{Sheet, WritesReach}
 use Rattle.body.specs.Together.{words_of_sheet}
-use Rattle.body.proofs.closing.put_home.Given as goal
+use Rattle.body.proofs.closing.put_each_home.Given as goal
 
 -- what is left comes home to what is there, and what the others wrote is in their columns
 abbrev pub invariant-loop-query : goal.invariant-loop-query

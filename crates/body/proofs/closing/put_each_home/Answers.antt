@@ -2,7 +2,7 @@ use Rattle.std.proofs.Common.{◌∷◌, sym, ap, subst, ◌∙◌}
 use Rattle.archetype_store.specs.Lending.{CanComeHome, all_home}
 use Rattle.body.specs.Lent.{lent_of, lent_after}
 use Rattle.body.proofs.LendingCloses.{query-can, queries-can, query-first, reach-more}
-use Rattle.body.proofs.closing.put_home.Goals as goal
+use Rattle.body.proofs.closing.put_each_home.Goals as goal
 
 pub put_columns-requires : goal.put_columns-requires
 put_columns-requires c =
