@@ -20,7 +20,7 @@ use Rattle.engine.specs.Latest.{IsFollowing}
 -- a core stands for the kind sets recorded last
 pub meetings_of : (core : Stand) (sets : Option (List (List ℕ))) (h : List Step) → Stands core sets h → IfSome (option_map (λ lists. get_or lists (syncs_in h) []) sets) (AreMeetings core)
 meetings_of core None h stands = tt
-meetings_of core (Some lists) h stands = record { meets = stands.meets; clashes = stands.clashes }
+meetings_of core (Some lists) h stands = record { meets = stands.meets; clashes = stands.clashes; due = λ there e. (stands.due there e).1 }
 
 -- where kind sets are recorded the latest of them are those that are there
 pub latest_there : {B : Type 0} (width : ℕ) (s : Schedule) (sets : Option (List (List ℕ))) (bodies : List BodyMeaning) (start : State) (h : List Step) (state : State) (deferred : DeferredValue) (out : List (JobOut B)) →

@@ -338,8 +338,26 @@ fn start_alone<B: Body>(
 {
     built.prove_law();
     run_here(built, run, bodies, system)?;
-    note(core, trace, Step::Start(system))?;
-    note(core, trace, Step::Finish(system))?;
+    note_whole(core, trace, system)?;
+    Ok(())
+}
+
+// Takes a start that may come, and its finish right behind it, and records both.
+#[inline(always)]
+fn note_whole(core: &mut Core<'_>, trace: &mut Trace, system: u32) -> Result<(), AllocError>
+    requires stands { Stands core.old trace.old.sets trace.old.steps }
+    requires start { May (recording core.old.schedule trace.old.sets) trace.old.steps (Begin
+        system) }
+    requires finish { May (recording core.old.schedule trace.old.sets) (Begin system
+        ∷ trace.old.steps) (Finish system) }
+    ensures steps { OnOk result (trace.new.steps ≡ Finish system ∷ Begin system ∷ trace.old.steps) }
+    ensures sets { OnOk result (trace.new.sets ≡ trace.old.sets) }
+    ensures stands { OnOk result (Stands core.new trace.new.sets trace.new.steps) }
+    ensures schedule { core.new.schedule ≡ core.old.schedule }
+{
+    trace.push(Step::Start(system))?;
+    trace.push(Step::Finish(system))?;
+    core.accept_whole(system);
     Ok(())
 }
 

@@ -1,6 +1,6 @@
 -- A core stands for the history with an accepted step.
 use Rattle.std.proofs.Common.{ℕ, zero, suc, ◌+◌, ◌<◌, Bool, true, false, ◌||◌, ◌&&◌, ◌==◌, eqb, nat_lt, ◌≡◌, inl, inr, List, [], ◌∷◌, ◌++◌, length, get_or, Option, Some, None, refl, sym, ◌∙◌, ap, subst, arith, lt-ltb, ltb-true, add-one, length-append}
-use Rattle.std.proofs.lemmas.Bool.{both_ways, false_from_ne_true, cases_order, or_left}
+use Rattle.std.proofs.lemmas.Bool.{both_ways, false_from_ne_true, cases_order, or_cases, or_left, or_right}
 use Rattle.std.proofs.lemmas.Bool.Decides.{eqb_tells}
 use Rattle.number_set.specs.Members.{contains}
 use Rattle.model.specs.declared.steps.Step.{Step}
@@ -8,8 +8,9 @@ use Rattle.model.specs.declared.steps.Step.TheVariants.{Cond, Start, Skip, Finis
 use Rattle.model.specs.steps.Schedule.{Schedule, recording}
 use Rattle.model.specs.steps.Lawful.{started, skipped, finished, answered, syncs_in, sets_at, May, IsLawful}
 use Rattle.model.proofs.order.Extending.{may_extended, lawful_extended}
-use Rattle.executor_core.specs.Stands.{Stand, MeetsAmong, ClashesAmong, MeetsBy, ClashesBy, AreListed, Stands, IsPassed}
-use Rattle.executor_core.proofs.Judging.{done_below, next_fresh}
+use Rattle.executor_core.specs.Stands.{Stand, MeetsAmong, ClashesAmong, MeetsBy, ClashesBy, AreListed, IsDueBy, IsQuiet, Stands, IsPassed}
+use Rattle.executor_core.proofs.Judging.{done_below, due_is, next_fresh}
+use Rattle.executor_core.proofs.Rows.{none-due}
 use Rattle.model.proofs.lists.Places.{get_or-last}
 
 -- the sync point that may come is the next one
@@ -39,15 +40,16 @@ one_further j k = elim (cases_order j k) [
     or_true false = refl
 
 -- a core whose rows stay, as one whose rows may be others
-with_rows : (core new : Stand) (k : ℕ) → ◌≡◌ {A = Stand} new (record core { done = k + 1 }) → ◌≡◌ {A = Stand} new (record core { done = k + 1; met = new.met; clashed = new.clashed })
-with_rows core new k rest = rest ∙ (λ i. record core { done = k + 1; met = (sym rest i).met; clashed = (sym rest i).clashed })
+with_rows : (core new : Stand) (k : ℕ) → ◌≡◌ {A = Stand} new (record core { done = k + 1 }) → ◌≡◌ {A = Stand} new (record core { done = k + 1; due = new.due; met = new.met; clashed = new.clashed })
+with_rows core new k rest = rest ∙ (λ i. record core { done = k + 1; due = (sym rest i).due; met = (sym rest i).met; clashed = (sym rest i).clashed })
 
 -- what is known of the core after a sync point, where its rows are those of the kind sets recorded there
 record IsSynced (core new : Stand) (sets more : Option (List (List ℕ))) (h : List Step) (k : ℕ) : Type 0 where
-  rest : ◌≡◌ {A = Stand} new (record core { done = k + 1; met = new.met; clashed = new.clashed })
+  rest : ◌≡◌ {A = Stand} new (record core { done = k + 1; due = new.due; met = new.met; clashed = new.clashed })
   lawful : IsLawful (recording core.schedule more) (Sync k ∷ h)
   meets : (n m : ℕ) → MeetsBy new more (Sync k ∷ h) n m
   clashes : (c m : ℕ) → ClashesBy new more (Sync k ∷ h) c m
+  due : IsDueBy new more (Sync k ∷ h)
   listed : AreListed more (Sync k ∷ h)
 
 -- it stands for the history with the sync point
@@ -63,6 +65,7 @@ stands_synced core new sets more h k stands may is = record {
   passed = subst IsPassed (sym is.rest) stands.passed;
   meets = is.meets;
   clashes = is.clashes;
+  due = is.due;
   listed = is.listed;
 }
 
@@ -75,6 +78,7 @@ stands_sync core new None h k plain stands may rest = stands_synced core new Non
   lawful = (may, stands.lawful);
   meets = λ n m. subst (λ (s : Stand). MeetsBy s None (Sync k ∷ h) n m) (sym rest) (stands.meets n m);
   clashes = λ c m. subst (λ (s : Stand). ClashesBy s None (Sync k ∷ h) c m) (sym rest) (stands.clashes c m);
+  due = subst (λ (s : Stand). IsDueBy s None (Sync k ∷ h)) (sym rest) stands.due;
   listed = tt;
 })
 
@@ -89,9 +93,9 @@ recorded_last s lists more h k e = ap Some (get_or-last lists more (suc (syncs_i
 
 -- the core stands for the history with a sync point, with its rows made anew
 pub stands_renewed : (core new : Stand) (lists : List (List ℕ)) (more : List ℕ) (h : List Step) (k : ℕ) → Stands core (Some lists) h → May (recording core.schedule (Some lists)) h (Sync k) →
-    ◌≡◌ {A = Stand} new (record core { done = k + 1; met = new.met; clashed = new.clashed }) → ((n m : ℕ) → MeetsAmong new (Some more) n m) → ((c m : ℕ) → ClashesAmong new (Some more) c m) →
-    Stands new (Some (lists ++ more ∷ [])) (Sync k ∷ h)
-stands_renewed core new lists more h k stands may rest meets clashes =
+    ◌≡◌ {A = Stand} new (record core { done = k + 1; due = new.due; met = new.met; clashed = new.clashed }) → ((n m : ℕ) → MeetsAmong new (Some more) n m) → ((c m : ℕ) → ClashesAmong new (Some more) c m) →
+    ((there : List ℕ) → new.due ≡ Some there → IsQuiet new × (Some more ≡ Some there)) → Stands new (Some (lists ++ more ∷ [])) (Sync k ∷ h)
+stands_renewed core new lists more h k stands may rest meets clashes due =
     let low : syncs_in h < length lists = omega (arith, stands.listed) in
     let last = recorded_last new.schedule lists more h k stands.listed in
     stands_synced core new (Some lists) (Some (lists ++ more ∷ [])) h k stands may (record {
@@ -99,6 +103,7 @@ stands_renewed core new lists more h k stands may rest meets clashes =
       lawful = (may_extended core.schedule lists more h (Sync k) low may, lawful_extended core.schedule lists more h low stands.lawful);
       meets = λ n m. subst (λ (there : Option (List ℕ)). MeetsAmong new there n m) (sym last) (meets n m);
       clashes = λ c m. subst (λ (there : Option (List ℕ)). ClashesAmong new there c m) (sym last) (clashes c m);
+      due = λ there e. ((due there e).0, last ∙ (due there e).1);
       listed = more_listed lists more (suc (syncs_in h)) stands.listed;
     })
 
@@ -109,6 +114,7 @@ stands_same core new lists h k stands may rest =
     stands_renewed core new lists (get_or lists (syncs_in h) []) h k stands may (with_rows core new k rest)
     (λ n m. subst (λ (s : Stand). MeetsAmong s (Some (get_or lists (syncs_in h) [])) n m) (sym rest) (stands.meets n m))
     (λ c m. subst (λ (s : Stand). ClashesAmong s (Some (get_or lists (syncs_in h) [])) c m) (sym rest) (stands.clashes c m))
+    (subst (λ (s : Stand). (there : List ℕ) → s.due ≡ Some there → IsQuiet s × (Some (get_or lists (syncs_in h) []) ≡ Some there)) (sym rest) stands.due)
 
 -- ---- systems
 
@@ -123,11 +129,19 @@ or_moved true false c = refl
 or_moved false true c = refl
 or_moved false false c = refl
 
+-- where all that had begun was over it stays so with one system more in both
+both_quiet : (core new : Stand) (n : ℕ) → ((m : ℕ) → contains new.begun m ≡ ((n == m) || contains core.begun m)) → ((m : ℕ) → contains new.over m ≡ ((n == m) || contains core.over m)) →
+    IsQuiet core → IsQuiet new
+both_quiet core new n begins ends quiet m b = elim (or_cases (n == m) (contains core.begun m) (sym (begins m) ∙ b)) [
+  | inl same ↦ ends m ∙ or_left (n == m) (contains core.over m) same
+  | inr before ↦ ends m ∙ or_right (n == m) (contains core.over m) (quiet m before)
+]
+
 -- the core stands for the history with a system that has started
 pub stands_start : (core new : Stand) (sets : Option (List (List ℕ))) (h : List Step) (n : ℕ) → Stands core sets h → May (recording core.schedule sets) h (Start n) →
     ◌≡◌ {A = Stand} new (record core { begun = new.begun; from = new.from }) → ((m : ℕ) → contains new.begun m ≡ ((n == m) || contains core.begun m)) → (IsPassed core → IsPassed new) →
-    Stands new sets (Start n ∷ h)
-stands_start core new sets h n stands may rest begins passes = record {
+    core.due ≡ None → Stands new sets (Start n ∷ h)
+stands_start core new sets h n stands may rest begins passes rows = record {
   lawful = subst (λ (s : Stand). IsLawful (recording s.schedule sets) (Start n ∷ h)) (sym rest) (may, stands.lawful);
   begins = λ m. or_grouped (n == m) (started h m) (skipped h m) ∙ (ap (λ b. (n == m) || b) (stands.begins m) ∙ sym (begins m));
   ends = λ m. stands.ends m ∙ ap (λ (s : Stand). contains s.over m) (sym rest);
@@ -137,6 +151,7 @@ stands_start core new sets h n stands may rest begins passes = record {
   passed = passes stands.passed;
   meets = λ i m. subst (λ (s : Stand). MeetsBy s sets (Start n ∷ h) i m) (sym rest) (stands.meets i m);
   clashes = λ c m. subst (λ (s : Stand). ClashesBy s sets (Start n ∷ h) c m) (sym rest) (stands.clashes c m);
+  due = λ there e. absurd (none-due new.due there (ap (λ (s : Stand). s.due) rest ∙ rows) e);
   listed = stands.listed;
 }
 
@@ -154,6 +169,9 @@ stands_skip core new sets h n stands may rest begins ends passed = record {
   passed = passed;
   meets = λ i m. subst (λ (s : Stand). MeetsBy s sets (Skip n ∷ h) i m) (sym rest) (stands.meets i m);
   clashes = λ c m. subst (λ (s : Stand). ClashesBy s sets (Skip n ∷ h) c m) (sym rest) (stands.clashes c m);
+  due = λ there e.
+      let before = stands.due there (sym (ap (λ (s : Stand). s.due) rest) ∙ e) in
+      (both_quiet core new n begins ends before.0, ap (λ (s : Stand). sets_at (recording s.schedule sets) h) rest ∙ before.1);
   listed = stands.listed;
 }
 
@@ -178,8 +196,55 @@ stands_finish core new sets h n stands may rest ends = record {
   passed = subst IsPassed (sym rest) stands.passed;
   meets = λ i m. subst (λ (s : Stand). MeetsBy s sets (Finish n ∷ h) i m) (sym rest) (stands.meets i m);
   clashes = λ c m. subst (λ (s : Stand). ClashesBy s sets (Finish n ∷ h) c m) (sym rest) (stands.clashes c m);
+  due = λ there e.
+      let before = stands.due there (sym (ap (λ (s : Stand). s.due) rest) ∙ e) in
+      ((λ m b. ends m ∙ or_right (n == m) (contains core.over m) (before.0 m (sym (ap (λ (s : Stand). contains s.begun m) rest) ∙ b))), ap (λ (s : Stand). sets_at (recording s.schedule sets) h) rest ∙ before.1);
   listed = stands.listed;
 }
+
+-- with one that has started, and finished right behind
+pub stands_whole : (core new : Stand) (sets : Option (List (List ℕ))) (h : List Step) (n : ℕ) → Stands core sets h → May (recording core.schedule sets) h (Start n) →
+    May (recording core.schedule sets) (Start n ∷ h) (Finish n) → ◌≡◌ {A = Stand} new (record core { begun = new.begun; over = new.over; from = new.from }) →
+    ((m : ℕ) → contains new.begun m ≡ ((n == m) || contains core.begun m)) → ((m : ℕ) → contains new.over m ≡ ((n == m) || contains core.over m)) → IsPassed new →
+    Stands new sets (Finish n ∷ Start n ∷ h)
+stands_whole core new sets h n stands may ended rest begins ends passed = record {
+  lawful = subst (λ (s : Stand). IsLawful (recording s.schedule sets) (Finish n ∷ Start n ∷ h)) (sym rest) (ended, (may, stands.lawful));
+  begins = λ m. or_grouped (n == m) (started h m) (skipped h m) ∙ (ap (λ b. (n == m) || b) (stands.begins m) ∙ sym (begins m));
+  ends = λ m. or_grouped (n == m) (finished h m) (skipped h m) ∙ (ap (λ b. (n == m) || b) (stands.ends m) ∙ sym (ends m));
+  asks = λ c. stands.asks c ∙ ap (λ (s : Stand). contains s.asked c) (sym rest);
+  yeses = λ c. stands.yeses c ∙ ap (λ (s : Stand). contains s.yes c) (sym rest);
+  syncs = λ j. stands.syncs j ∙ ap (λ (s : Stand). nat_lt j s.done) (sym rest);
+  passed = passed;
+  meets = λ i m. subst (λ (s : Stand). MeetsBy s sets (Finish n ∷ Start n ∷ h) i m) (sym rest) (stands.meets i m);
+  clashes = λ c m. subst (λ (s : Stand). ClashesBy s sets (Finish n ∷ Start n ∷ h) c m) (sym rest) (stands.clashes c m);
+  due = λ there e.
+      let before = stands.due there (sym (ap (λ (s : Stand). s.due) rest) ∙ e) in
+      (both_quiet core new n begins ends before.0, ap (λ (s : Stand). sets_at (recording s.schedule sets) h) rest ∙ before.1);
+  listed = stands.listed;
+}
+
+-- with the rows made that were due
+pub stands_made : (core new : Stand) (sets : Option (List (List ℕ))) (h : List Step) → Stands core sets h → ◌≡◌ {A = Stand} new (record core { due = None; met = new.met; clashed = new.clashed }) →
+    (core.due ≡ None → ◌≡◌ {A = Stand} new core) → ((there : List ℕ) → core.due ≡ Some there → (n m : ℕ) → MeetsAmong new (Some there) n m) →
+    ((there : List ℕ) → core.due ≡ Some there → (c m : ℕ) → ClashesAmong new (Some there) c m) → Stands new sets h
+stands_made core new sets h stands rest kept meets clashes = elim (due_is core.due) [
+  | inl rows ↦ subst (λ (s : Stand). Stands s sets h) (sym (kept rows)) stands
+  | inr due ↦
+      let last : sets_at (recording new.schedule sets) h ≡ Some due.0 = ap (λ (s : Stand). sets_at (recording s.schedule sets) h) rest ∙ (stands.due due.0 due.1).1 in
+      record {
+        lawful = subst (λ (s : Stand). IsLawful (recording s.schedule sets) h) (sym rest) stands.lawful;
+        begins = λ m. stands.begins m ∙ ap (λ (s : Stand). contains s.begun m) (sym rest);
+        ends = λ m. stands.ends m ∙ ap (λ (s : Stand). contains s.over m) (sym rest);
+        asks = λ c. stands.asks c ∙ ap (λ (s : Stand). contains s.asked c) (sym rest);
+        yeses = λ c. stands.yeses c ∙ ap (λ (s : Stand). contains s.yes c) (sym rest);
+        syncs = λ j. stands.syncs j ∙ ap (λ (s : Stand). nat_lt j s.done) (sym rest);
+        passed = subst IsPassed (sym rest) stands.passed;
+        meets = λ n m. subst (λ (there : Option (List ℕ)). MeetsAmong new there n m) (sym last) (meets due.0 due.1 n m);
+        clashes = λ c m. subst (λ (there : Option (List ℕ)). ClashesAmong new there c m) (sym last) (clashes due.0 due.1 c m);
+        due = λ there e. absurd (none-due new.due there (ap (λ (s : Stand). s.due) rest) e);
+        listed = stands.listed;
+      }
+]
 
 -- ---- conditions
 
@@ -197,6 +262,7 @@ stands_asked core new sets h c answer stands may rest asked agreed reads = recor
   passed = subst IsPassed (sym rest) stands.passed;
   meets = λ n m. subst (λ (s : Stand). MeetsBy s sets (Cond c answer ∷ h) n m) (sym rest) (stands.meets n m);
   clashes = λ d m. subst (λ (s : Stand). ClashesBy s sets (Cond c answer ∷ h) d m) (sym rest) (stands.clashes d m);
+  due = subst (λ (s : Stand). IsDueBy s sets (Cond c answer ∷ h)) (sym rest) stands.due;
   listed = stands.listed;
 }
 

@@ -1,5 +1,5 @@
 -- From the sets of a core to what each step asks, for each history for which the core stands.
-use Rattle.std.proofs.Common.{ℕ, ◌<◌, ◌≤◌, Bool, true, false, not, ◌&&◌, nat_lt, ◌≡◌, inl, inr, List, [], ◌∷◌, length, Option, refl, sym, ◌∙◌, subst, arith, lt-ltb, ltb-true}
+use Rattle.std.proofs.Common.{ℕ, ◌<◌, ◌≤◌, Bool, true, false, not, ◌&&◌, nat_lt, ◌≡◌, ◌⊎◌, inl, inr, List, [], ◌∷◌, length, Option, Some, None, refl, sym, ◌∙◌, subst, arith, lt-ltb, ltb-true}
 use Rattle.std.proofs.lemmas.Bool.{both_ways, true_from_ne_false, false_from_ne_true, false≢true, cases_lt, cases_order}
 use Rattle.number_set.specs.Members.{contains}
 use Rattle.model.specs.declared.steps.Step.{Step}
@@ -85,18 +85,30 @@ released_from core sets h n stands free = record {
 
 -- ---- conflicts
 
+-- rows are due, or they aren't
+pub due_is : (d : Option (List ℕ)) → (d ≡ None) ⊎ ((there : List ℕ) × (d ≡ Some there))
+due_is None = inl refl
+due_is (Some there) = inr (there, refl)
+
 -- where each system that meets this one and has begun is over no running system meets it
 pub no_meeting : (core : Stand) (sets : Option (List (List ℕ))) (h : List Step) (n : ℕ) → Stands core sets h → NoneMeets core n → MeetsRunning (recording core.schedule sets) h (params_of core.schedule n) → ⊥
 no_meeting core sets h n stands none meets =
     let bits = sets_of_runs core sets h stands meets.0 meets.1 in
     let known : meets.0 < length core.schedule.systems = runs_known (recording core.schedule sets) h meets.0 stands.lawful meets.1 in
-    both_ways _ bits.1 (none meets.0 ((stands.meets n meets.0).1 (known, meets.2)) bits.0)
+    elim (due_is core.due) [
+      | inl rows ↦ both_ways _ bits.1 (none meets.0 ((stands.meets n meets.0 rows).1 (known, meets.2)) bits.0)
+      | inr due ↦ both_ways _ bits.1 ((stands.due due.0 due.1).0 meets.0 bits.0)
+    ]
 
 -- and the other way round
 pub meeting : (core : Stand) (sets : Option (List (List ℕ))) (h : List Step) (n : ℕ) → Stands core sets h → (NoneMeets core n → ⊥) → MeetsRunning (recording core.schedule sets) h (params_of core.schedule n)
 meeting core sets h n stands some = elim (decide_meets (recording core.schedule sets) h (params_of core.schedule n) stands.lawful) [
   | inl meets ↦ meets
-  | inr none ↦ absurd (some (λ m rival b. true_from_ne_false (contains core.over m) (λ o. none (m, runs_of_sets core sets h stands m b o, ((stands.meets n m).0 rival).1))))
+  | inr none ↦
+      absurd (some (λ m rival b. elim (due_is core.due) [
+        | inl rows ↦ true_from_ne_false (contains core.over m) (λ o. none (m, runs_of_sets core sets h stands m b o, ((stands.meets n m rows).0 rival).1))
+        | inr due ↦ (stands.due due.0 due.1).0 m b
+      ]))
 ]
 
 -- ---- conditions
@@ -135,13 +147,20 @@ pub no_clash : (core : Stand) (sets : Option (List (List ℕ))) (h : List Step) 
 no_clash core sets h c stands none meets =
     let bits = sets_of_runs core sets h stands meets.0 meets.1 in
     let known : meets.0 < length core.schedule.systems = runs_known (recording core.schedule sets) h meets.0 stands.lawful meets.1 in
-    both_ways _ bits.1 (none meets.0 ((stands.clashes c meets.0).1 (known, meets.2)) bits.0)
+    elim (due_is core.due) [
+      | inl rows ↦ both_ways _ bits.1 (none meets.0 ((stands.clashes c meets.0 rows).1 (known, meets.2)) bits.0)
+      | inr due ↦ both_ways _ bits.1 ((stands.due due.0 due.1).0 meets.0 bits.0)
+    ]
 
 -- and the other way round
 pub clash : (core : Stand) (sets : Option (List (List ℕ))) (h : List Step) (c : ℕ) → Stands core sets h → (NoneClashes core c → ⊥) → MeetsRunning (recording core.schedule sets) h (access_of core.schedule c)
 clash core sets h c stands some = elim (decide_meets (recording core.schedule sets) h (access_of core.schedule c) stands.lawful) [
   | inl meets ↦ meets
-  | inr none ↦ absurd (some (λ m rival b. true_from_ne_false (contains core.over m) (λ o. none (m, runs_of_sets core sets h stands m b o, ((stands.clashes c m).0 rival).1))))
+  | inr none ↦
+      absurd (some (λ m rival b. elim (due_is core.due) [
+        | inl rows ↦ true_from_ne_false (contains core.over m) (λ o. none (m, runs_of_sets core sets h stands m b o, ((stands.clashes c m rows).0 rival).1))
+        | inr due ↦ (stands.due due.0 due.1).0 m b
+      ]))
 ]
 
 -- a waiting system is free, and the other way round

@@ -1,5 +1,5 @@
 -- The rows of a core: made bit by bit, what they say, and the core that has accepted nothing.
-use Rattle.std.proofs.Common.{ℕ, ◌+◌, ◌/◌, ◌%◌, ◌<◌, ◌≤◌, true, false, ◌||◌, ◌==◌, nat_lt, ◌≡◌, ◌≢◌, ◌⊎◌, ◌↔◌, inl, inr, List, [], ◌∷◌, ◌++◌, length, get_or, set, take, drop, Option, Some, None, refl, sym, ap, ◌∙◌, subst, arith, ltb-true}
+use Rattle.std.proofs.Common.{ℕ, ◌+◌, ◌/◌, ◌%◌, ◌<◌, ◌≤◌, Bool, true, false, ◌||◌, ◌==◌, nat_lt, ◌≡◌, ◌≢◌, ◌⊎◌, ◌↔◌, inl, inr, List, [], ◌∷◌, ◌++◌, length, get_or, set, take, drop, Option, Some, None, unwrap_or, refl, sym, ap, ◌∙◌, subst, arith, ltb-true}
 use Rattle.std.proofs.lemmas.Bool.{both_ways, false≢true, false_from_ne_true, or_cases, or_left, or_right, eqb-true, eq-eqb, cases_lt, cases_order}
 use Rattle.std.proofs.lemmas.List.{append-nil, drop_all, take_all, length-set, get_or-set_same, get_or-set_other, get_or_default, get_or_past}
 use Rattle.number_set.specs.Members.{contains}
@@ -12,7 +12,7 @@ use Rattle.model.proofs.lists.Bits.{no_bit}
 use Rattle.model.proofs.serial.Conflicts.{conflict_from_meet, meet_from_conflict}
 use Rattle.schedule_builder.specs.Rows.{IsRow, IsRival, AreRows}
 use Rattle.schedule_builder.specs.Conditions.{IsClash}
-use Rattle.executor_core.specs.Stands.{Stand, MeetsAmong, ClashesAmong, IsPassed, Stands, AreMeetings, IsCleared}
+use Rattle.executor_core.specs.Stands.{Stand, MeetsAmong, ClashesAmong, IsPassed, IsQuiet, Stands, AreMeetings, IsCleared, due_of}
 use Rattle.executor_core.specs.Judges.{AreRoomy}
 use Rattle.executor_core.specs.Meetings.{IsMeeting, IsClashing}
 
@@ -200,7 +200,7 @@ whole_put rows items count put held =
 
 -- rows of rivals say who meets by any kind set
 met_first : (core : Stand) → AreRows (length core.schedule.systems) (length core.schedule.systems) (IsRival core.schedule.systems) core.met → (n m : ℕ) → MeetsAmong core None n m
-met_first core are n m =
+met_first core are n m rows =
     let say = rows_say (length core.schedule.systems) (length core.schedule.systems) (IsRival core.schedule.systems) core.met are
     (λ i k past p. past_system core.schedule None (params_of core.schedule k) i past (meet_from_conflict _ _ p.1)) n m in (
       (λ e. let p : IsRival core.schedule.systems n m = say.0 e in (p.0, meet_from_conflict _ _ p.1)),
@@ -209,7 +209,7 @@ met_first core are n m =
 
 clashed_first : (core : Stand) → AreRows (length core.schedule.systems) (length core.schedule.conditions) (IsClash core.schedule.systems core.schedule.conditions) core.clashed → (c m : ℕ) →
     ClashesAmong core None c m
-clashed_first core are c m =
+clashed_first core are c m rows =
     let say = rows_say (length core.schedule.systems) (length core.schedule.conditions) (IsClash core.schedule.systems core.schedule.conditions) core.clashed are
     (λ i k past p. past_condition core.schedule None (params_of core.schedule k) i past (meet_from_conflict _ _ p.1)) c m in (
       (λ e. let p : IsClash core.schedule.systems core.schedule.conditions c m = say.0 e in (p.0, meet_from_conflict _ _ p.1)),
@@ -224,8 +224,14 @@ pub record IsFirst (core : Stand) : Type 0 where
   pub yes : (n : ℕ) → contains core.yes n ≡ false
   pub done : core.done ≡ 0
   pub from : core.from ≡ 0
+  pub due : core.due ≡ None
   pub met : AreRows (length core.schedule.systems) (length core.schedule.systems) (IsRival core.schedule.systems) core.met
   pub clashed : AreRows (length core.schedule.systems) (length core.schedule.conditions) (IsClash core.schedule.systems core.schedule.conditions) core.clashed
+
+-- rows aren't due, and are
+pub none-due : (d : Option (List ℕ)) (there : List ℕ) → d ≡ None → d ≡ Some there → ⊥
+none-due None there e f = absurd (cc)
+none-due (Some sets) there e f = absurd (cc)
 
 -- it stands for the empty history of a run that records no kind sets
 pub stands_first : (core : Stand) → IsFirst core → Stands core None []
@@ -239,13 +245,14 @@ stands_first core is = record {
   passed = λ k low. absurd (omega (arith, is.from));
   meets = met_first core is.met;
   clashes = clashed_first core is.clashed;
+  due = λ there e. absurd (none-due core.due there is.due e);
   listed = tt;
 }
 
 -- and with its rows made anew for that of one that records these
-pub stands_opened : (core new : Stand) (sets : List ℕ) → Stands core None [] → ◌≡◌ {A = Stand} new (record core { met = new.met; clashed = new.clashed }) →
-    ((n m : ℕ) → MeetsAmong new (Some sets) n m) → ((c m : ℕ) → ClashesAmong new (Some sets) c m) → Stands new (Some (sets ∷ [])) []
-stands_opened core new sets stands rest meets clashes = record {
+pub stands_opened : (core new : Stand) (sets : List ℕ) → Stands core None [] → ◌≡◌ {A = Stand} new (record core { due = new.due; met = new.met; clashed = new.clashed }) →
+    ((n m : ℕ) → MeetsAmong new (Some sets) n m) → ((c m : ℕ) → ClashesAmong new (Some sets) c m) → ((there : List ℕ) → new.due ≡ Some there → IsQuiet new × (Some sets ≡ Some there)) → Stands new (Some (sets ∷ [])) []
+stands_opened core new sets stands rest meets clashes due = record {
   lawful = tt;
   begins = λ n. stands.begins n ∙ ap (λ (s : Stand). contains s.begun n) (sym rest);
   ends = λ n. stands.ends n ∙ ap (λ (s : Stand). contains s.over n) (sym rest);
@@ -255,6 +262,7 @@ stands_opened core new sets stands rest meets clashes = record {
   passed = subst IsPassed (sym rest) stands.passed;
   meets = meets;
   clashes = clashes;
+  due = due;
   listed = refl;
 }
 
@@ -270,18 +278,20 @@ stands_begun core sets is are = record {
   passed = λ k low. absurd (omega (arith, is.from));
   meets = are.meets;
   clashes = are.clashes;
+  due = λ there e. ((λ m b. absurd (both_ways _ (is.begun m) b)), are.due there e);
   listed = refl;
 }
 
 -- rows that stay are by the kind sets by which they were
-pub meetings_same : (core new : Stand) (sets : List ℕ) → ◌≡◌ {A = Stand} new (record new { schedule = core.schedule; met = core.met; clashed = core.clashed }) → AreMeetings core sets → AreMeetings new sets
+pub meetings_same : (core new : Stand) (sets : List ℕ) → ◌≡◌ {A = Stand} new (record new { schedule = core.schedule; met = core.met; clashed = core.clashed; due = core.due }) → AreMeetings core sets → AreMeetings new sets
 meetings_same core new sets rest are = record {
   meets = λ n m. subst (λ (s : Stand). MeetsAmong s (Some sets) n m) (sym rest) (are.meets n m);
   clashes = λ c m. subst (λ (s : Stand). ClashesAmong s (Some sets) c m) (sym rest) (are.clashes c m);
+  due = λ there e. are.due there (sym (ap (λ (s : Stand). s.due) rest) ∙ e);
 }
 
 -- so it is with other rows
-pub cleared_renewed : (core new : Stand) → ◌≡◌ {A = Stand} new (record core { met = new.met; clashed = new.clashed }) → IsCleared core → IsCleared new
+pub cleared_renewed : (core new : Stand) → ◌≡◌ {A = Stand} new (record core { due = new.due; met = new.met; clashed = new.clashed }) → IsCleared core → IsCleared new
 cleared_renewed core new rest is = record {
   begun = λ n. ap (λ (s : Stand). contains s.begun n) rest ∙ is.begun n;
   over = λ n. ap (λ (s : Stand). contains s.over n) rest ∙ is.over n;
@@ -290,3 +300,8 @@ cleared_renewed core new rest is = record {
   done = ap (λ (s : Stand). s.done) rest ∙ is.done;
   from = ap (λ (s : Stand). s.from) rest ∙ is.from;
 }
+
+-- the kind sets of rows that are due are those that were noted
+pub due-sets : (is : Bool) (noted there : List ℕ) → due_of is noted ≡ Some there → noted ≡ there
+due-sets false noted there e = absurd (cc)
+due-sets true noted there e = ap (λ (d : Option (List ℕ)). unwrap_or d noted) e

@@ -19,7 +19,7 @@ use Rattle.model.proofs.progress.Progress.{lists_go_on}
 use Rattle.model.proofs.faults.ExactFaults.{faults_are_exact}
 use Rattle.executor_core.specs.Stands.{Stand, Stands}
 use Rattle.executor_core.specs.Judges.{Judges, NoneMeets, IsWaiting, HasUnasked, HasRefusing, CanAsk, IsLeastAskable}
-use Rattle.executor_core.proofs.Judging.{done_below, next_fresh, runs_of_sets, free_waiting, waiting_free, no_clash, meeting, unasked_from, refusing_from, skip_may, start_may}
+use Rattle.executor_core.proofs.Judging.{done_below, due_is, next_fresh, runs_of_sets, free_waiting, waiting_free, no_clash, meeting, unasked_from, refusing_from, skip_may, start_may}
 
 -- ---- judgements
 
@@ -52,7 +52,10 @@ can_from core sets h n c stands askable = (
   askable.0,
   record {
     fresh = sym (stands.asks c) ∙ askable.1;
-    clear = λ m clash b. true_from_ne_false (contains core.over m) (λ o. askable.2 (m, runs_of_sets core sets h stands m b o, ((stands.clashes c m).0 clash).1));
+    clear = λ m clash b. elim (due_is core.due) [
+      | inl rows ↦ true_from_ne_false (contains core.over m) (λ o. askable.2 (m, runs_of_sets core sets h stands m b o, ((stands.clashes c m rows).0 clash).1))
+      | inr due ↦ (stands.due due.0 due.1).0 m b
+    ];
   },
 )
 

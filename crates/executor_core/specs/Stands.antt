@@ -1,6 +1,6 @@
 -- What contracts see of a core, and the histories for which it stands. A history has the latest step first.
-use Rattle.std.specs.Prelude.{ℕ, suc, ◌+◌, ◌*◌, ◌<◌, ◌≡◌, ◌↔◌, true, false, nat_lt, List, [], length, get_or, Option, Some, None, MatchOption, refl}
-use Rattle.std.specs.Coded.{Coded, code_by, coded×, coded_list, coded_ℕ}
+use Rattle.std.specs.Prelude.{ℕ, suc, ◌+◌, ◌*◌, ◌<◌, ◌≡◌, ◌↔◌, Bool, true, false, nat_lt, List, [], length, get_or, Option, Some, None, MatchOption, refl}
+use Rattle.std.specs.Coded.{Coded, code_by, coded×, coded_list, coded_option, coded_ℕ}
 use Rattle.number_set.specs.Members.{contains}
 use Rattle.model.specs.declared.steps.Step.{Step}
 use Rattle.model.specs.declared.steps.Step.TheVariants.{Cond, Start, Skip, Finish, Sync}
@@ -10,8 +10,8 @@ use Rattle.model.specs.steps.Codes.{schedule_code}
 use Rattle.model.specs.steps.Lawful.{IsLawful, begun, ended, was_asked, answered, synced, syncs_in, sets_at}
 
 -- a schedule; the systems that have begun and that are over, the conditions that were asked and that answered yes, as sets of numbers; how
--- many sync points are done; how many systems at the front of the schedule order need no more be looked at; and for each system and each
--- condition the systems that meet it, as sets of numbers
+-- many sync points are done; how many systems at the front of the schedule order need no more be looked at; for each system and each
+-- condition the systems that meet it, as sets of numbers; and the kind sets by which these rows are yet to be made, where they are due
 pub record Stand : Type 0 where
   pub schedule : Schedule
   pub begun : List ℕ
@@ -22,13 +22,14 @@ pub record Stand : Type 0 where
   pub from : ℕ
   pub met : List (List ℕ)
   pub clashed : List (List ℕ)
+  pub due : Option (List ℕ)
 
 -- it is stored as the tuple of its parts
 abbrev pub stand_code : Coded Stand
-stand_code = code_by (Schedule × (List ℕ × (List ℕ × (List ℕ × (List ℕ × (ℕ × (ℕ × (List (List ℕ) × List (List ℕ)))))))))
+stand_code = code_by (Schedule × (List ℕ × (List ℕ × (List ℕ × (List ℕ × (ℕ × (ℕ × (List (List ℕ) × (List (List ℕ) × Option (List ℕ))))))))))
     (coded× schedule_code (coded× (coded_list coded_ℕ) (coded× (coded_list coded_ℕ) (coded× (coded_list coded_ℕ) (coded× (coded_list coded_ℕ)
-    (coded× coded_ℕ (coded× coded_ℕ (coded× (coded_list (coded_list coded_ℕ)) (coded_list (coded_list coded_ℕ))))))))))
-    (λ s. (s.schedule, (s.begun, (s.over, (s.asked, (s.yes, (s.done, (s.from, (s.met, s.clashed)))))))))
+    (coded× coded_ℕ (coded× coded_ℕ (coded× (coded_list (coded_list coded_ℕ)) (coded× (coded_list (coded_list coded_ℕ)) (coded_option (coded_list coded_ℕ)))))))))))
+    (λ s. (s.schedule, (s.begun, (s.over, (s.asked, (s.yes, (s.done, (s.from, (s.met, (s.clashed, s.due))))))))))
     (λ p. record {
       schedule = p.0;
       begun = p.1.0;
@@ -38,21 +39,31 @@ stand_code = code_by (Schedule × (List ℕ × (List ℕ × (List ℕ × (List �
       done = p.1.1.1.1.1.0;
       from = p.1.1.1.1.1.1.0;
       met = p.1.1.1.1.1.1.1.0;
-      clashed = p.1.1.1.1.1.1.1.1;
+      clashed = p.1.1.1.1.1.1.1.1.0;
+      due = p.1.1.1.1.1.1.1.1.1;
     }) (λ _. refl)
 
 -- the systems that need no more be looked at have begun
 abbrev pub IsPassed : Stand → Type 0
 IsPassed core = (k : ℕ) → k < core.from → contains core.begun (get_or core.schedule.order k 0) ≡ true
 
--- the row of a system holds another exactly where it meets the system, by the kind sets that may be there
+-- the kind sets of rows that are due
+abbrev pub due_of : Bool → List ℕ → Option (List ℕ)
+due_of false sets = None
+due_of true sets = Some sets
+
+-- all that has begun is over
+abbrev pub IsQuiet : Stand → Type 0
+IsQuiet core = (m : ℕ) → contains core.begun m ≡ true → contains core.over m ≡ true
+
+-- the row of a system holds another exactly where it meets the system, by the kind sets that may be there: unless it is due
 abbrev pub MeetsAmong : Stand → Option (List ℕ) → ℕ → ℕ → Type 0
-MeetsAmong core there n m = (contains (get_or core.met n []) m ≡ true)
+MeetsAmong core there n m = core.due ≡ None → (contains (get_or core.met n []) m ≡ true)
     ↔ ((m < length core.schedule.systems) × Meet there (params_of core.schedule m) (params_of core.schedule n))
 
 -- so the row of a condition
 abbrev pub ClashesAmong : Stand → Option (List ℕ) → ℕ → ℕ → Type 0
-ClashesAmong core there c m = (contains (get_or core.clashed c []) m ≡ true)
+ClashesAmong core there c m = core.due ≡ None → (contains (get_or core.clashed c []) m ≡ true)
     ↔ ((m < length core.schedule.systems) × Meet there (params_of core.schedule m) (access_of core.schedule c))
 
 -- the same by the kind sets recorded last
@@ -61,6 +72,10 @@ MeetsBy core sets h n m = MeetsAmong core (sets_at (recording core.schedule sets
 
 abbrev pub ClashesBy : Stand → Option (List (List ℕ)) → List Step → ℕ → ℕ → Type 0
 ClashesBy core sets h c m = ClashesAmong core (sets_at (recording core.schedule sets) h) c m
+
+-- rows are due only where nothing runs, by the kind sets recorded last
+abbrev pub IsDueBy : Stand → Option (List (List ℕ)) → List Step → Type 0
+IsDueBy core sets h = (there : List ℕ) → core.due ≡ Some there → IsQuiet core × (sets_at (recording core.schedule sets) h ≡ Some there)
 
 -- kind sets are recorded at the opening and after each sync point, or nowhere
 abbrev pub AreListed : Option (List (List ℕ)) → List Step → Type 0
@@ -86,12 +101,14 @@ pub record Stands (core : Stand) (sets : Option (List (List ℕ))) (h : List Ste
   pub passed : IsPassed core
   pub meets : (n m : ℕ) → MeetsBy core sets h n m
   pub clashes : (c m : ℕ) → ClashesBy core sets h c m
+  pub due : IsDueBy core sets h
   pub listed : AreListed sets h
 
--- the rows of a core are those by these kind sets: the systems that meet each system, and each condition
+-- the rows of a core are those by these kind sets, or due by them: the systems that meet each system, and each condition
 pub record AreMeetings (core : Stand) (sets : List ℕ) : Type 0 where
   pub meets : (n m : ℕ) → MeetsAmong core (Some sets) n m
   pub clashes : (c m : ℕ) → ClashesAmong core (Some sets) c m
+  pub due : (there : List ℕ) → core.due ≡ Some there → Some sets ≡ Some there
 
 -- a core has accepted nothing
 pub record IsCleared (core : Stand) : Type 0 where

@@ -4,13 +4,13 @@ ghost use Rattle.std.specs.Prelude.{ℕ, ◌≡◌, ◌+◌, ◌<◌, ◌≤◌,
 ghost use Rattle.std.specs.Bool.{OnFalse};
 ghost use Rattle.number_set.specs.Members.{contains};
 ghost use Rattle.model.specs.declared.steps.Step.{Step};
-ghost use Rattle.model.specs.declared.steps.Step.TheVariants.{Sync};
+ghost use Rattle.model.specs.declared.steps.Step.TheVariants.{Start as Begin, Finish, Sync};
 ghost use Rattle.model.specs.steps.Schedule.{recording, condition_at, level_of};
 ghost use Rattle.model.specs.steps.Built.{IsBuilt};
 ghost use Rattle.model.specs.steps.Lawful.{IsLawful, IsComplete, NoneRuns, May, syncs_in};
 ghost use Rattle.model.specs.steps.Faults.{IsFirstFault};
 ghost use Rattle.model.specs.steps.Ready.{IsReady, OnlyFinish, step_of};
-ghost use Rattle.executor_core.specs.Stands.{Stands, AreMeetings, IsCleared, IsPassed, IsPlainStep, MeetsAmong, ClashesAmong, room};
+ghost use Rattle.executor_core.specs.Stands.{Stands, AreMeetings, IsCleared, IsPassed, IsPlainStep, IsQuiet, MeetsAmong, ClashesAmong, due_of, room};
 ghost use Rattle.executor_core.specs.Judges.{AllOver, NoneMeets, NoneClashes, IsReleased, IsOpen, IsKnown};
 ghost use Rattle.schedule_builder.specs.Conditions.{IsCovering, IsRisingListing};
 
@@ -26,7 +26,8 @@ use std::marker::Model;
 
 /// The accepted steps of one run of a schedule. Contracts speak of each history that a core represents, by `Stands`:
 /// such a history is lawful, and has the latest step first. With it come the archetypes that the run records, if it
-/// does. A core doesn't keep them, but has for each system and condition the systems that meet it by the latest.
+/// does. A core keeps the latest alone, until another system starts and is to run beside others: by then it has, for
+/// each system and condition, the systems that meet it.
 pub struct Core<'a> {
     built: &'a Built,
     begun: NumberSet,
@@ -39,6 +40,9 @@ pub struct Core<'a> {
     left: Counts,
     met: Vec<NumberSet>,
     clashed: Vec<NumberSet>,
+    // Whether these rows are yet to be made, and by which archetypes.
+    is_due: bool,
+    due: Vec<u32>,
 }
 
 // One function drops it wherever it is let go.
@@ -56,13 +60,15 @@ impl<'a> Drop for Core<'a> {
             left: _,
             met: _,
             clashed: _,
+            is_due: _,
+            due: _,
         } = self;
     }
 }
 
 impl<'a> Model for Core<'a> {
     ghost use Rattle.std.specs.Prelude.{length};
-    ghost use Rattle.executor_core.specs.Stands.{Stand, stand_code};
+    ghost use Rattle.executor_core.specs.Stands.{Stand, due_of, stand_code};
     ghost use Rattle.executor_core.specs.Judges.{IsRoomy, IsAskRoomy, AreRoomy, HasCounts};
 
     ghost Value = { Stand };
@@ -79,6 +85,7 @@ impl<'a> Model for Core<'a> {
       from = c.from;
       met = c.met.items;
       clashed = c.clashed.items;
+      due = due_of c.is_due c.due.items;
     } };
 
     ghost invariant = { λ c. IsRoomy (length c.built.now.systems) c.begun c.over
@@ -90,7 +97,7 @@ impl<'a> Model for Core<'a> {
 
 impl<'a> Core<'a> {
     /// A core that has accepted nothing, of a run that records no archetypes. Apart from this one only calls by which
-    /// a run begins take memory.
+    /// a run begins take memory. `sync_in` may note archetypes in its own, and needs none where it can't.
     pub fn new(alloc: Global, built: &'a Built) -> Result<Self, AllocError>
         ensures schedule { IfOk result (λ core. core.schedule ≡ built.now) }
         ensures stands { IfOk result (λ core. Stands core None []) }
@@ -115,6 +122,8 @@ impl<'a> Core<'a> {
             left,
             met,
             clashed,
+            is_due: false,
+            due: Vec::new(alloc),
         })
     }
 
@@ -124,7 +133,7 @@ impl<'a> Core<'a> {
         ensures stands { IfOk result (λ core. Stands core (Some (sets.now ∷ [])) []) }
     {
         let mut core = Core::new(alloc, built)?;
-        core.renew(sets);
+        core.renew_later(sets);
         Ok(core)
     }
 
@@ -135,7 +144,7 @@ impl<'a> Core<'a> {
         ensures unchanged { OnErr result (self.new ≡ self.old) }
     {
         self.forget(alloc)?;
-        self.renew(sets);
+        self.renew_later(sets);
         Ok(())
     }
 
@@ -194,6 +203,22 @@ impl<'a> Core<'a> {
         self.take(step);
     }
 
+    /// Takes the start of a system and its finish right behind it, of which it is known that they may come. Nothing is
+    /// looked at that only a running system asks for.
+    #[inline(always)]
+    pub fn accept_whole(&mut self, system: u32)
+        requires { (sets : Option (List (List ℕ))) × (h : List Step) × Stands self.old sets h
+            × May (recording self.old.schedule sets) h (Begin system) }
+        ensures stands { (sets : Option (List (List ℕ))) (h : List Step) → Stands self.old sets h
+            → May (recording self.old.schedule sets) h (Begin system)
+            → May (recording self.old.schedule sets) (Begin system ∷ h) (Finish system)
+            → Stands self.new sets (Finish system ∷ Begin system ∷ h) }
+        ensures schedule { self.new.schedule ≡ self.old.schedule }
+    {
+        self.begin(system);
+        self.end(system);
+    }
+
     /// Takes a sync point of a run that records archetypes: these after it. It is accepted exactly where it may come.
     /// Otherwise its first fault is returned and nothing changes.
     pub fn sync_in(&mut self, sync: u32, sets: &KindSets) -> Result<(), StepFault>
@@ -212,7 +237,7 @@ impl<'a> Core<'a> {
             return Err(fault);
         }
         self.pass_sync(sync);
-        self.renew(sets);
+        self.renew_later(sets);
         Ok(())
     }
 
@@ -416,7 +441,10 @@ impl<'a> Core<'a> {
     {
         match step {
             Step::Cond(condition, answer) => self.note(condition, answer),
-            Step::Start(system) => self.begin(system),
+            Step::Start(system) => {
+                self.renew_due();
+                self.begin(system);
+            }
             Step::Skip(system) => {
                 self.begin(system);
                 self.end(system);
@@ -486,6 +514,7 @@ impl<'a> Core<'a> {
               schedule = self.old.schedule;
               met = self.old.met;
               clashed = self.old.clashed;
+              due = self.old.due;
             }) }
         ensures schedule { self.new.schedule ≡ self.old.schedule }
         ensures unchanged { OnErr result (self.new ≡ self.old) }
@@ -504,6 +533,82 @@ impl<'a> Core<'a> {
         self.done = 0;
         self.from = 0;
         Ok(())
+    }
+
+    // Whether all that has begun is over.
+    fn is_quiet(&self) -> bool
+        ensures { IsTrue result → IsQuiet self.now }
+    {
+        self.begun.shares_only(&self.begun, &self.over)
+    }
+
+    // Puts the rows off: they are due by these kind sets. Whether it is so: not where a system runs, nor where there is no memory to note the sets.
+    fn put_off(&mut self, sets: &KindSets) -> bool
+        ensures rest { self.new ≡ record self.old { due = self.new.due } }
+        ensures due { self.new.due ≡ due_of result sets.now }
+        ensures quiet { IsTrue result → IsQuiet self.old }
+    {
+        self.is_due = false;
+        if !self.is_quiet() {
+            return false;
+        }
+        self.due.clear();
+        if self.due.extend_from_slice(sets.numbers()).is_err() {
+            return false;
+        }
+        self.is_due = true;
+        true
+    }
+
+    // The rows are to be those that meet each system and each condition where these are the kind sets that are there. They are made where the next
+    // system starts, unless one runs already.
+    fn renew_later(&mut self, sets: &KindSets)
+        ensures rest { self.new
+            ≡ record self.old {
+              due = self.new.due;
+              met = self.new.met;
+              clashed = self.new.clashed;
+            } }
+        ensures met { (n m : ℕ) → MeetsAmong self.new (Some sets.now) n m }
+        ensures clashed { (c m : ℕ) → ClashesAmong self.new (Some sets.now) c m }
+        ensures due { (there : List ℕ) → self.new.due ≡ Some there
+            → IsQuiet self.new × (Some sets.now ≡ Some there) }
+    {
+        if self.put_off(sets) {
+            return;
+        }
+        self.renew(sets);
+    }
+
+    // Makes the rows that are due.
+    #[inline(always)]
+    fn renew_due(&mut self)
+        ensures rest { self.new
+            ≡ record self.old { due = None; met = self.new.met; clashed = self.new.clashed } }
+        ensures kept { self.old.due ≡ None → self.new ≡ self.old }
+        ensures met { (there : List ℕ) → self.old.due ≡ Some there
+            → (n m : ℕ) → MeetsAmong self.new (Some there) n m }
+        ensures clashed { (there : List ℕ) → self.old.due ≡ Some there
+            → (c m : ℕ) → ClashesAmong self.new (Some there) c m }
+    {
+        if self.is_due {
+            self.make_due();
+        }
+    }
+
+    // The same by the kind sets that were noted last.
+    #[inline(never)]
+    fn make_due(&mut self)
+        ensures rest { self.new
+            ≡ record self.old { due = None; met = self.new.met; clashed = self.new.clashed } }
+        ensures met { (there : List ℕ) → self.old.due ≡ Some there
+            → (n m : ℕ) → MeetsAmong self.new (Some there) n m }
+        ensures clashed { (there : List ℕ) → self.old.due ≡ Some there
+            → (c m : ℕ) → ClashesAmong self.new (Some there) c m }
+    {
+        self.is_due = false;
+        renew_met(self.met.as_mut_slice(), self.built, self.due.as_slice());
+        renew_clashed(self.clashed.as_mut_slice(), self.built, self.due.as_slice());
     }
 
     // Makes the rows anew: those that meet each system and each condition where these are the kind sets that are there.

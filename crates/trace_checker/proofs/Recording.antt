@@ -187,5 +187,5 @@ knows_last core (Some lists) h place e stands =
     let n = syncs_in h in
     let few : length (take (suc n) lists) ≡ suc n = stands.listed in
     let taken : get_or (take (suc n) lists) n [] ≡ get_or lists place [] = get_or-take (suc n) lists n [] (omega arith) ∙ ap (λ k. get_or lists k []) (sym e) in
-    let known : AreMeetings core (get_or (take (suc n) lists) n []) = record { meets = stands.meets; clashes = stands.clashes } in
+    let known : AreMeetings core (get_or (take (suc n) lists) n []) = record { meets = stands.meets; clashes = stands.clashes; due = λ there e. (stands.due there e).1 } in
     (omega (arith, e, few, length-take (suc n) lists), subst (AreMeetings core) taken known)

@@ -23,6 +23,8 @@ pub struct CoreRoom {
     left: Counts,
     met: Vec<NumberSet>,
     clashed: Vec<NumberSet>,
+    is_due: bool,
+    due: Vec<u32>,
 }
 
 // One function drops it wherever it is let go.
@@ -40,13 +42,15 @@ impl Drop for CoreRoom {
             left: _,
             met: _,
             clashed: _,
+            is_due: _,
+            due: _,
         } = self;
     }
 }
 
 impl Model for CoreRoom {
     ghost use Rattle.std.specs.Prelude.{length};
-    ghost use Rattle.executor_core.specs.Stands.{Stand, stand_code};
+    ghost use Rattle.executor_core.specs.Stands.{Stand, due_of, stand_code};
     ghost use Rattle.executor_core.specs.Judges.{IsRoomy, IsAskRoomy, AreRoomy, HasCounts};
 
     ghost Value = { Stand };
@@ -63,6 +67,7 @@ impl Model for CoreRoom {
       from = c.from;
       met = c.met.items;
       clashed = c.clashed.items;
+      due = due_of c.is_due c.due.items;
     } };
 
     ghost invariant = { λ c. IsRoomy (length c.built.value.systems) c.begun c.over
@@ -91,6 +96,8 @@ impl CoreRoom {
             left,
             met,
             clashed,
+            is_due,
+            due,
         } = self;
         Core {
             built,
@@ -104,6 +111,8 @@ impl CoreRoom {
             left,
             met,
             clashed,
+            is_due,
+            due,
         }
     }
 }
@@ -125,6 +134,8 @@ impl<'a> Core<'a> {
             left,
             met,
             clashed,
+            is_due,
+            due,
         } = self;
         CoreRoom {
             built: Snapshot::of(built),
@@ -138,6 +149,8 @@ impl<'a> Core<'a> {
             left,
             met,
             clashed,
+            is_due,
+            due,
         }
     }
 }

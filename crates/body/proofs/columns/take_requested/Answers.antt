@@ -2,7 +2,7 @@ use Rattle.std.proofs.Common.{List, map, sym, ap, ◌∙◌, subst}
 use Rattle.archetype_store.specs.Layout.{Archetype}
 use Rattle.archetype_store.specs.Lending.{CanShare}
 use Rattle.archetype_store.specs.Store.{StoreValue}
-use Rattle.archetype_store.proofs.SingleRowMove.{on_err_from}
+use Rattle.column_store.proofs.Turns.{on_err_from}
 use Rattle.query_plan.specs.Picks.{pick_seen}
 use Rattle.body.specs.HeldColumns.{held_seen}
 use Rattle.body.proofs.HeldPicks.{held-of, away-of, own-can, own-back, can-share-after}

@@ -32,8 +32,8 @@ take_requested-requires-clause-others c =
     let are = ap (map pick_seen) c.as_slice.ensures.value ∙ kept-picks p.query p.world.value w (map pick_seen p.parts.picks.items) tables p.parts.rows c.self.invariant.plan same in
     subst AreOtherSpots (sym are) (picks-others w.state.slots p.query w.layout c.prove_laid.ensures)
 
-pub open-query-requires : goal.open-query-requires
-open-query-requires c =
+pub open_by-query-requires : goal.open_by-query-requires
+open_by-query-requires c =
     let w = c.args.world.now in
     let p = c.self.inside in
     let columns = map held_seen c.in_ok-columns.columns.items in

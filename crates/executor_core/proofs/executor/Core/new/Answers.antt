@@ -26,6 +26,7 @@ returns-clause-stands c = stands_first _ (record {
   yes = c.in_ok-yes.ensures.empty;
   done = refl;
   from = refl;
+  due = refl;
   met = c.in_ok-met.ensures;
   clashed = c.in_ok-clashed.ensures;
 })

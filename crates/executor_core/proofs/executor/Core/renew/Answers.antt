@@ -6,7 +6,7 @@ use Rattle.executor_core.proofs.Rows.{met_renewed, clashed_renewed, whole_put}
 use Rattle.executor_core.proofs.executor.Core.renew.Goals as goal
 
 pub returns-clause-met : goal.returns-clause-met
-returns-clause-met c = λ n m.
+returns-clause-met c = λ n m rows.
     let inside = c.self.inside in
     let s = inside.built.now in
     let held = inside.met.ok.0 in
@@ -15,7 +15,7 @@ returns-clause-met c = λ n m.
     (subst (λ (numbers : List ℕ). (contains (get_or c.renew_met.new.rows n []) m ≡ true) ↔ ((m < length s.systems) × Meet (Some numbers) (params_of s m) (params_of s n))) c.numbers.ensures (met_renewed s c.renew_met.new.rows c.numbers.result.now c.renew_met.ensures n m))
 
 pub returns-clause-clashed : goal.returns-clause-clashed
-returns-clause-clashed c = λ k m.
+returns-clause-clashed c = λ k m rows.
     let inside = c.self.inside in
     let s = inside.built.now in
     let held = inside.clashed.ok.0 in

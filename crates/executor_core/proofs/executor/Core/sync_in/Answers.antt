@@ -11,6 +11,7 @@ returns-in-Err-clause-accepts c = λ sets h stands. tells_may (recording c.args.
 
 pub returns-clause-stands : goal.returns-clause-stands
 returns-clause-stands c = λ lists h stands.
-    let new : Stand = c.renew.new.self in
+    let new : Stand = c.renew_later.new.self in
+    let made = c.renew_later.ensures in
     stands_renewed c.args.self.now new lists c.args.sets.now h c.args.sync stands (c.in_default.ensures.judged (Some lists) h stands)
-    (c.renew.ensures.rest ∙ (λ i. record (c.pass_sync.ensures i) { met = new.met; clashed = new.clashed })) c.renew.ensures.met c.renew.ensures.clashed
+    (made.rest ∙ (λ i. record (c.pass_sync.ensures i) { due = new.due; met = new.met; clashed = new.clashed })) made.met made.clashed made.due

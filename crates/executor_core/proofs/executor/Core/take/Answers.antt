@@ -1,10 +1,11 @@
 use Rattle.std.proofs.Common.{ℕ, ◌==◌, ◌||◌, ◌∷◌, subst, sym, ap, ◌∙◌}
 use Rattle.number_set.specs.Members.{contains}
 use Rattle.model.specs.declared.steps.Step.{Step}
+use Rattle.model.specs.declared.steps.Step.TheVariants.{Start}
 use Rattle.model.specs.steps.Schedule.{recording}
 use Rattle.model.specs.steps.Lawful.{May}
 use Rattle.executor_core.specs.Stands.{Stand, IsPassed, IsPlainStep, Stands}
-use Rattle.executor_core.proofs.AcceptedSteps.{stands_ask, stands_start, stands_skip, skip_changes, stands_finish, stands_sync}
+use Rattle.executor_core.proofs.AcceptedSteps.{stands_ask, stands_made, stands_start, stands_skip, skip_changes, stands_finish, stands_sync}
 use Rattle.executor_core.proofs.executor.Core.take.Goals as goal
 
 pub returns-in-Cond-clause-stands : goal.returns-in-Cond-clause-stands
@@ -15,9 +16,14 @@ returns-in-Cond-clause-stands c = λ sets h stands may plain.
 
 pub returns-in-Start-clause-stands : goal.returns-in-Start-clause-stands
 returns-in-Start-clause-stands c = λ sets h stands may plain.
+    let made = c.renew_due.ensures in
+    let middle : Stand = c.renew_due.new.self in
+    let old : Stand = c.args.self.now in
+    let may-start = subst (λ (step : Step). May (recording old.schedule sets) h step) c.in-Start.is may in
     subst (λ (step : Step). Stands c.begin.new.self sets (step ∷ h)) (sym c.in-Start.is)
-    (stands_start c.args.self.now c.begin.new.self sets h c.in-Start.system stands
-    (subst (λ (step : Step). May (recording c.args.self.now.schedule sets) h step) c.in-Start.is may) c.begin.ensures.rest c.begin.ensures.begun c.begin.ensures.passed)
+    (stands_start middle c.begin.new.self sets h c.in-Start.system (stands_made old middle sets h stands made.rest made.kept made.met made.clashed)
+    (subst (λ (s : Stand). May (recording s.schedule sets) h (Start c.in-Start.system)) (sym made.rest) may-start) c.begin.ensures.rest c.begin.ensures.begun c.begin.ensures.passed
+    (ap (λ (s : Stand). s.due) made.rest))
 
 pub returns-in-Skip-clause-stands : goal.returns-in-Skip-clause-stands
 returns-in-Skip-clause-stands c = λ sets h stands may plain.
