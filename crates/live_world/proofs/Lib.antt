@@ -1,3 +1,2 @@
 mod LineTexts
-mod LoadReplies
 mod Replies

@@ -1,16 +1,11 @@
 // The first line of bytes that a host sends, and the lines behind it.
 
-ghost use Rattle.std.specs.Prelude.{◌≡◌, ◌↔◌, IsTrue, MatchOption};
+ghost use Rattle.std.specs.Prelude.{◌≡◌, ◌↔◌, IsTrue};
 ghost use Rattle.live_world.specs.Sent.{EndsLines, IsParted};
-ghost use Rattle.parsing.specs.Reads.{SpellsOnly};
-ghost use Rattle.requests.specs.Load.{IsLoad};
 ghost use Rattle.session.specs.Body.{AreLines};
-ghost use Rattle.session.specs.Plays.{IsNoLoad};
 ghost use Rattle.session.specs.Replies.{lines_in};
 
 use memchr::memchr;
-use requests::{Load, read_load};
-use std::str;
 
 /// The first line of some bytes, without its end, and what stands behind that. Where no line ends, all of them are
 /// the line.
@@ -21,16 +16,6 @@ pub fn parted(sent: &[u8]) -> (&[u8], &[u8])
         Some(end) => (&sent[..end], &sent[end + 1..]),
         None => (sent, &sent[sent.len()..]),
     }
-}
-
-/// What a line asks to load.
-pub fn load_of(line: &[u8]) -> Option<Load>
-    ensures { MatchOption result (IsNoLoad line.now) (SpellsOnly IsLoad line.now) }
-{
-    let Ok(text) = str::from_utf8(line) else {
-        return None;
-    };
-    read_load(text)
 }
 
 /// Whether a text is so many lines, each with its end.

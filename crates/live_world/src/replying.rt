@@ -6,12 +6,12 @@ ghost use Rattle.parsing.specs.Reads.{SpellsOnly};
 ghost use Rattle.program.specs.Setup.{script_means};
 ghost use Rattle.requests.specs.Load.{IsLoad};
 ghost use Rattle.session.specs.Body.{AreLines};
-ghost use Rattle.session.specs.Plays.{IsLoadReply, IsReplied, unasked_reply};
+ghost use Rattle.session.specs.Plays.{IsLoadReply, IsReplied};
 
-use crate::lines::{are_lines, load_of, parted};
-use requests::{Load, RequestFault, read_request};
+use crate::lines::{are_lines, parted};
+use requests::{Load, read_request};
 use script::ScriptBody;
-use session::play::MOST_BYTES;
+use session::play::{MOST_BYTES, load_of, unasked};
 use session::{Refusal, Reply, Session};
 use std::alloc::Global;
 use std::str;
@@ -57,16 +57,5 @@ fn answer(alloc: Global, session: &mut Session<ScriptBody>, line: &[u8]) -> Repl
     match read_request(alloc, text) {
         Ok(request) => session.answer_here(alloc, &request).reply,
         Err(fault) => unasked(fault),
-    }
-}
-
-// What is replied to a line that asks for nothing.
-fn unasked(fault: RequestFault) -> Reply
-    ensures { result ≡ unasked_reply fault }
-{
-    match fault {
-        RequestFault::Unknown => Reply::Refused(Refusal::Unknown),
-        RequestFault::Query => Reply::Refused(Refusal::Query),
-        RequestFault::Memory => Reply::Failed,
     }
 }

@@ -11,7 +11,7 @@ mod Taken
 mod BodyLines
 mod NamedFiles
 mod LoadedTexts
-mod LoadReplies
+pub mod LoadReplies
 mod LoadTurns
 pub mod Retaken
 mod Noted

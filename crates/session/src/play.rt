@@ -224,8 +224,8 @@ fn turn<'s, B: Body + 's, M: Mode<'s>, R: BufRead>(
     }
 }
 
-// What a line asks to load.
-fn load_of(line: &[u8]) -> Option<Load>
+/// What a line asks to load. None where it asks for something else, or for nothing.
+pub fn load_of(line: &[u8]) -> Option<Load>
     ensures { MatchOption result (IsNoLoad line.now) (SpellsOnly IsLoad line.now) }
 {
     let Ok(text) = str::from_utf8(line) else {
@@ -408,8 +408,8 @@ fn reply_to<'s, B: Body + 's, M: Mode<'s>>(
     }
 }
 
-// What is replied to a line that asks for nothing.
-fn unasked(fault: RequestFault) -> Reply
+/// What is replied to a line that asks for nothing.
+pub fn unasked(fault: RequestFault) -> Reply
     ensures { result ≡ unasked_reply fault }
 {
     match fault {
