@@ -1,66 +1,16 @@
 -- Columns of archetypes: which table has them, what they hold, and what is left where one leaves or comes home.
-use Rattle.std.proofs.Common.{◌≡◌, ℕ, zero, suc, ◌+◌, ◌<◌, ◌≤◌, Bool, true, false, cond, ◌==◌, ◌&&◌, ◌⊎◌, inl, inr, List, [], ◌∷◌, length, get_or, set, map, Option, Some, None, option_map, is_some, Result, Ok, Err, OnOk, OnErr, refl, sym, ap, ap₂, subst, ◌∙◌, arith, add-one}
-use Rattle.std.specs.List.{list_all, AllByRecursion}
-use Rattle.std.specs.Prelude.{slice_get}
-use Rattle.std.proofs.Math.Seq.{map-set_same}
-use Rattle.std.proofs.lemmas.Bool.{cases_eq, and_parts, eqb-true, eq-eqb, ne_eqb, and_parts as both}
-use Rattle.std.proofs.lemmas.Bool.Decides.{nat_tests}
-use Rattle.std.proofs.lemmas.List.{get_or-set_same, get_or-set_other, get_or_past, get_or_default}
-use Rattle.model.specs.Lists.{is_there, update_at, IsIn}
-use Rattle.model.specs.state.State.{Cell, Component}
-use Rattle.model.specs.state.Rows.{cell_at}
-use Rattle.model.specs.declared.entities.Entity.{Entity}
-use Rattle.model.proofs.lists.Lists.{map-same}
-use Rattle.column_store.specs.Column.{ColumnCells}
-use Rattle.column_store.specs.Kinds.{AreBelow, at_kind, update_kind}
-use Rattle.column_store.specs.Order.{is_same, AreApart}
-use Rattle.column_store.specs.Components.{components_in, components_of}
-use Rattle.column_store.specs.Table.{Standing, TableRow, TableValue, is_home, standing_of, empty_table, row_of as row_in_table, with_cell_at, cell_of_kind, filled_rows, lent, homed, IsHome}
-use Rattle.column_store.specs.Table.Standing.{Owned, Shared, Away}
+use Rattle.archetype_store.proofs.Common.{◌≡◌, ℕ, zero, suc, ◌<◌, ◌≤◌, Bool, true, false, cond, ◌==◌, ◌&&◌, ◌⊎◌, inl, inr, List, [], ◌∷◌, length, set, map, Option, Some, None, option_map, is_some, Result, Ok, Err, OnOk, OnErr, refl, sym, ap, ap₂, subst, ◌∙◌, arith, list_all, AllByRecursion, slice_get, map-set_same, cases_eq, and_parts, eq-eqb, ne_eqb, nat_tests, get_or-set_same, get_or-set_other, get_or_past, is_there, update_at, IsIn, Cell, Component, cell_at, Entity, map-same, ColumnCells, AreBelow, at_kind, update_kind, is_same, AreApart, components_in, components_of, Standing, TableRow, TableValue, is_home, standing_of, empty_table, with_cell_at, cell_of_kind, filled_rows, lent, homed, IsHome, Owned, Shared, Away, EntityLocation, Archetype, archetype_of, layout_of, archetype_at, column_home, with_column, with_home, table_at, kinds_at, held_in, held_at, row_or_none, is_unshared, cells_at, number_of, AreUnshared, IsTableOf, StorageValue, archetypes_of, row_of, row_in, holder_of, holder_in, place_of, is_place, row_cells, cell_for, cell_held, row_with, IsOfKinds, IsStored, IsFilled, AreArchetypes, eqb-true}
+use Rattle.std.proofs.lemmas.Bool.{and_parts as both}
+use Rattle.column_store.specs.Table.{row_of as row_in_table}
 use Rattle.column_store.proofs.TheirComponents.{cells_are_theirs}
 use Rattle.model.proofs.agreement.Agreement.{is_some-option_map as is_some-map}
 use Rattle.column_store.proofs.Apart.{same_self, same_entity}
-use Rattle.archetype_store.specs.declared.locations.EntityLocation.{EntityLocation}
-use Rattle.archetype_store.specs.Layout.{Archetype, archetype_of, layout_of, archetype_at, column_home, with_column, with_home}
-use Rattle.archetype_store.specs.Tables.{table_at, kinds_at, held_in, held_at, row_or_none, is_unshared, cells_at, number_of, AreUnshared, IsTableOf}
-use Rattle.archetype_store.specs.Storage.{StorageValue, archetypes_of, row_of, row_in, holder_of, holder_in, place_of, is_place, row_cells, cell_for, cell_held, row_with, IsOfKinds, IsStored, IsFilled, AreArchetypes}
 use Rattle.archetype_store.proofs.TablesAfterRowChange.{shape_at}
 use Rattle.archetype_store.proofs.PlacesAfterRowChange.{row_seen, holder_seen, not_elsewhere}
 use Rattle.archetype_store.proofs.ColumnStandings.{AreSame, same_whole, same_rows, shaped_kinds, unlike_kinds}
 use Rattle.archetype_store.proofs.RowMoves.{index_flipped as other_than}
 
 -- ---- the table of an archetype
-
-number_step : (b : Bool) (u : TableValue) (us : List TableValue) (n : ℕ) → n ≡ length (layout_of us) → cond b (suc n) n ≡ length (cond b (archetype_of u ∷ layout_of us) (layout_of us))
-number_step true u us n h = ap suc h
-number_step false u us n h = h
-
-next_step : (b : Bool) (n m : ℕ) (c : Bool) → m ≡ cond c (suc n) n → cond b (suc m) m ≡ cond c (suc (cond b (suc n) n)) (cond b (suc n) n)
-next_step true n m true h = ap suc h
-next_step true n m false h = ap suc h
-next_step false n m true h = h
-next_step false n m false h = h
-
--- one more table
-pub number_next : (T : List TableValue) (t : ℕ) → t < length T → number_of T (suc t) ≡ cond (is_there (table_at T t).rows) (suc (number_of T t)) (number_of T t)
-number_next [] t l = absurd (omega arith)
-number_next (u ∷ us) zero l = first us
-  where
-    none : (us : List TableValue) → number_of us zero ≡ zero
-    none [] = refl
-    none (v ∷ vs) = refl
-
-    first : (us : List TableValue) → cond (is_there u.rows) (suc (number_of us zero)) (number_of us zero) ≡ cond (is_there u.rows) (suc zero) zero
-    first us = ap (λ n. cond (is_there u.rows) (suc n) n) (none us)
-number_next (u ∷ us) (suc t) l = next_step (is_there u.rows) (number_of us t) (number_of us (suc t)) (is_there (table_at us t).rows) (number_next us t (omega arith))
-
-module _ (T : List TableValue) (t left archetype : ℕ) (u : TableValue) (l : t < length T) (is : u ≡ get_or T t u) (so_far : left + number_of T t ≡ archetype) where
-  there_is : u ≡ table_at T t
-  there_is = is ∙ get_or_default T t u (empty_table []) l
-
-  next_is : (b : Bool) → is_there u.rows ≡ b → number_of T (t + 1) ≡ cond b (suc (number_of T t)) (number_of T t)
-  next_is b h = ap (number_of T) (add-one t) ∙ number_next T t l ∙ ap (λ (x : TableValue). cond (is_there x.rows) (suc (number_of T t)) (number_of T t)) (sym there_is)
-      ∙ ap (λ d. cond d (suc (number_of T t)) (number_of T t)) h
 
 at_step : (b : Bool) (u : TableValue) (us : List TableValue) (n : ℕ) (a : Archetype) → archetype_at (layout_of us) n ≡ a → archetype_at (cond b (archetype_of u ∷ layout_of us) (layout_of us)) (cond b (suc n) n) ≡ a
 at_step true u us n a h = h
@@ -193,7 +143,7 @@ stored_lent T P s n t k at h =
     let new = lent (table_at T t) k in
     record {
       whole = same_whole T (set T t new) (same_set T t new at.within refl refl (length-update_kind (table_at T t).kinds k Away (table_at T t).standings)) P h.whole;
-      bare = each_set (λ u. is_there u.rows ≡ false → list_all is_home u.standings ≡ true) T t new (λ none. absurd (let e : true ≡ false = sym at.peopled ∙ none in cc)) h.bare;
+      empty = each_set (λ u. is_there u.rows ≡ false → list_all is_home u.standings ≡ true) T t new (λ none. absurd (let e : true ≡ false = sym at.peopled ∙ none in cc)) h.empty;
       unshared = λ e. each_set (λ u. list_all is_unshared u.standings ≡ true) T t new
           (unshared_update (table_at T t).kinds k Away (table_at T t).standings refl (unshared_at T t at.within (h.unshared e))) (h.unshared e);
     }
@@ -415,8 +365,8 @@ module _ (T : List TableValue) (P : List (Option EntityLocation)) (n t : ℕ) (a
   pub stored_homed : (s : Bool) → IsStored T P s → IsStored (set T t (homed (table_at T t) c)) P s
   stored_homed s h = record {
     whole = whole_homed;
-    bare = each_set (λ x. is_there x.rows ≡ false → list_all is_home x.standings ≡ true) T t (homed (table_at T t) c)
-        (λ none. absurd (let e : true ≡ false = sym at.peopled ∙ sym (there_filled (kinds_at T t) c.kind c.cells (table_at T t).rows) ∙ none in cc)) h.bare;
+    empty = each_set (λ x. is_there x.rows ≡ false → list_all is_home x.standings ≡ true) T t (homed (table_at T t) c)
+        (λ none. absurd (let e : true ≡ false = sym at.peopled ∙ sym (there_filled (kinds_at T t) c.kind c.cells (table_at T t).rows) ∙ none in cc)) h.empty;
     unshared = λ e. each_set (λ x. list_all is_unshared x.standings ≡ true) T t (homed (table_at T t) c)
         (unshared_update (kinds_at T t) c.kind Owned (table_at T t).standings refl (unshared_at T t at.within (h.unshared e))) (h.unshared e);
   }

@@ -1,30 +1,8 @@
 -- What changes of entities make of an id book, and with rows of slots.
-use Rattle.std.proofs.Common.{◌≡◌, ℕ, zero, suc, ◌<◌, Bool, true, false, cond, ◌==◌, ◌&&◌, ◌||◌, List, [], ◌∷◌, length, get_or, take, map, Some, None, refl, sym, ap, ap₂, subst, ◌∙◌, arith}
-use Rattle.std.proofs.lemmas.Bool.{and_parts, eq-eqb, eqb-true}
-use Rattle.std.proofs.lemmas.Bool.Decides.{nat_tests}
-use Rattle.std.specs.List.{AllByRecursion}
-use Rattle.model.specs.Lists.{update_at, map_index, is_there}
-use Rattle.model.specs.declared.entities.Entity.{Entity}
-use Rattle.model.specs.state.Shape.{IsSlot}
-use Rattle.model.specs.state.State.{Component, Slot, Status, fresh_slot, is_living, is_granted, last_generation}
-use Rattle.model.specs.state.State.Status.{Vacant, Living, Granted, Retired}
-use Rattle.model.specs.state.Rows.{IsRising}
-use Rattle.model.specs.state.Commands.{is_alive, freed, spawned, with_row}
-use Rattle.model.proofs.lists.Lists.{map_index-same, map_index-map_index, get_or-update_at_other}
-use Rattle.model.proofs.lists.Each.{each-weaker}
-use Rattle.column_store.specs.Cells.{stamped_number}
-use Rattle.column_store.specs.Kinds.{AreBelow}
+use Rattle.archetype_store.proofs.Common.{◌≡◌, ℕ, zero, suc, ◌<◌, Bool, true, false, cond, ◌==◌, ◌&&◌, ◌||◌, List, [], ◌∷◌, length, get_or, take, map, Some, None, refl, sym, ap, ap₂, subst, ◌∙◌, arith, and_parts, eq-eqb, nat_tests, AllByRecursion, update_at, map_index, is_there, Entity, IsSlot, Component, Slot, Status, fresh_slot, is_living, is_granted, last_generation, Vacant, Living, Granted, Retired, IsRising, is_alive, freed, spawned, with_row, map_index-same, map_index-map_index, get_or-update_at_other, each-weaker, stamped_number, AreBelow, slot_at, IsBook, IsGranted, with_rows, Fate, EntityChange, row_left, components_left, slot_left, change_at, changed, living_slot, settled_slot, book_changed, AreOfOtherIndices, IsHeldBy, StorageValue, row_of, holder_of, holder_if, HaveRows, row_changed, holder_changed, HasRows, component_of, eqb-true}
 use Rattle.entity_table.proofs.WithRows.{status-with_rows, generation-with_rows}
-use Rattle.entity_table.specs.Ids.{slot_at, IsBook, IsGranted}
-use Rattle.entity_table.specs.Rows.{with_rows}
 use Rattle.model.proofs.agreement.Visits.{update_at-update_at as update_at-twice}
-use Rattle.archetype_store.specs.declared.change.Fate.{Fate}
 use Rattle.archetype_store.specs.declared.change.Fate.TheVariants as the
-use Rattle.archetype_store.specs.declared.change.EntityChange.{EntityChange}
-use Rattle.archetype_store.specs.Changes.{row_left, components_left, slot_left, change_at, changed, living_slot, settled_slot, book_changed, AreOfOtherIndices, IsHeldBy}
-use Rattle.archetype_store.specs.Storage.{StorageValue, row_of, holder_of, holder_if, HaveRows, row_changed, holder_changed}
-use Rattle.archetype_store.specs.Inside.{HasRows}
-use Rattle.archetype_store.specs.Row.{component_of}
 use Rattle.archetype_store.proofs.RowEdits.{kinds-components, below_from_rising}
 use Rattle.archetype_store.proofs.RowMoves.{index_flipped}
 
@@ -148,18 +126,18 @@ granted_else book c held dead = record {
 pub woken_granted : (book : List Slot) (e : Entity) → IsBook book → IsGranted book e → update_at e.index (spawned e.generation) book ≡ update_at e.index living_slot book
 woken_granted book e whole granted = update_at-here e.index (spawned e.generation) living_slot book fresh_slot
     (ap (λ b. cond b (let x : Slot = record { generation = s.generation; status = Living; row = [] } in x) s) (ap₂ ◌&&◌ (ap is_granted granted.status) (eq-eqb s.generation e.generation granted.generation))
-    ∙ ap (λ row. let x : Slot = record { generation = s.generation; status = Living; row = row } in x) (sym bare))
+    ∙ ap (λ row. let x : Slot = record { generation = s.generation; status = Living; row = row } in x) (sym empty))
   where
     s : Slot
     s = slot_at book e.index
 
-    bare_in : (xs : List Slot) (i : ℕ) → AllByRecursion (IsSlot (λ kind. 0) 0) xs → is_living (slot_at xs i).status ≡ false → (slot_at xs i).row ≡ []
-    bare_in [] i h dead = refl
-    bare_in (x ∷ xs) zero h dead = h.0.no_row dead
-    bare_in (x ∷ xs) (suc i) h dead = bare_in xs i h.1 dead
+    empty_in : (xs : List Slot) (i : ℕ) → AllByRecursion (IsSlot (λ kind. 0) 0) xs → is_living (slot_at xs i).status ≡ false → (slot_at xs i).row ≡ []
+    empty_in [] i h dead = refl
+    empty_in (x ∷ xs) zero h dead = h.0.no_row dead
+    empty_in (x ∷ xs) (suc i) h dead = empty_in xs i h.1 dead
 
-    bare : s.row ≡ []
-    bare = bare_in book e.index whole.slots (ap is_living granted.status)
+    empty : s.row ≡ []
+    empty = empty_in book e.index whole.slots (ap is_living granted.status)
 
 pub woken_lives : (book : List Slot) (c : EntityChange) → IsHeldBy book c → is_alive (update_at c.entity.index living_slot book) c.entity ≡ true
 woken_lives book c held = go book c.entity.index held.held (eq-eqb (slot_at book c.entity.index).generation c.entity.generation held.generation)
@@ -250,17 +228,17 @@ module _ (book : List Slot) (a b : StorageValue) (h : HasRows book a) where
         lives = ap (λ x. is_living (cond x (settled_slot c.fate (slot_at book i)) (settled_at cs i (slot_at book i))).status && ((cond x (settled_slot c.fate (slot_at book i)) (settled_at cs i (slot_at book i))).generation == g)) other ∙ m.lives;
       }
 
-  bare_if : (row : List Component) (n : ℕ) → holder_if row n ≡ None → row ≡ []
-  bare_if [] n is = refl
-  bare_if (c ∷ cs) n is = absurd (cc)
+  empty_if : (row : List Component) (n : ℕ) → holder_if row n ≡ None → row ≡ []
+  empty_if [] n is = refl
+  empty_if (c ∷ cs) n is = absurd (cc)
 
   bare_at : (cs : List EntityChange) (i : ℕ) → holder_changed cs i (holder_of a.holders i) ≡ None → row_changed cs i (row_of a.rows i) ≡ []
-  bare_at [] i none = h.bare i none
+  bare_at [] i none = h.empty i none
   bare_at (c ∷ cs) i none = go (i == c.entity.index) none (bare_at cs i)
     where
       go : (d : Bool) → cond d (holder_if (components_left c.fate) c.entity.generation) (holder_changed cs i (holder_of a.holders i)) ≡ None →
           (holder_changed cs i (holder_of a.holders i) ≡ None → row_changed cs i (row_of a.rows i) ≡ []) → cond d (components_left c.fate) (row_changed cs i (row_of a.rows i)) ≡ []
-      go true is more = bare_if (components_left c.fate) c.entity.generation is
+      go true is more = empty_if (components_left c.fate) c.entity.generation is
       go false is more = more is
 
   -- who has a row lives, and who has none has none
@@ -269,7 +247,7 @@ module _ (book : List Slot) (a b : StorageValue) (h : HasRows book a) where
     live = λ i g holder.
         let m = lives_at cs held i g (sym (has.holders i) ∙ holder) in
         ap (λ (s : Slot). is_living s.status && (s.generation == g)) (ap (λ xs. slot_at xs i) (book-changed cs book apart) ∙ slot_at-map_index (settled_at cs) book i m.within) ∙ m.lives;
-    bare = λ i none. has.rows i ∙ bare_at cs i (sym (has.holders i) ∙ none);
+    empty = λ i none. has.rows i ∙ bare_at cs i (sym (has.holders i) ∙ none);
   }
 
 -- ---- what is asked of the parts

@@ -1,26 +1,5 @@
 -- Columns of several archetypes, taken one after the other and put back.
-use Rattle.std.proofs.Common.{◌≡◌, ℕ, zero, suc, ◌+◌, ◌<◌, Bool, true, false, cond, ◌==◌, List, [], ◌∷◌, ◌++◌, length, get_or, take, map, Some, None, refl, sym, ap, ap₂, subst, ◌∙◌, arith}
-use Rattle.std.specs.List.{AllByRecursion, list_any}
-use Rattle.column_store.specs.Order.{is_same}
-use Rattle.std.specs.Arc.{arc_value}
-use Rattle.std.proofs.lemmas.List.{length-map, take_more}
-use Rattle.kinds.specs.Kind.{kind_number}
-use Rattle.kinds.specs.Components.{widths}
-use Rattle.model.specs.state.State.{Cell, Component, Slot, World}
-use Rattle.model.specs.state.Rows.{row_at, cell_at, IsRising}
-use Rattle.model.specs.state.Commands.{is_alive}
-use Rattle.model.specs.state.Shape.{IsComponent, IsSlot, IsWorld}
-use Rattle.model.specs.declared.entities.Entity.{Entity}
-use Rattle.model.proofs.lists.Each.{each-weaker}
-use Rattle.model.proofs.lists.Lists.{get_or-update_at-view}
-use Rattle.column_store.specs.Kinds.{at_kind, update_kind}
-use Rattle.archetype_store.specs.declared.columns.ColumnAt.{ColumnAt}
-use Rattle.archetype_store.specs.declared.columns.TakenColumn.{TakenColumn}
-use Rattle.archetype_store.specs.declared.columns.SharedColumn.{SharedColumn}
-use Rattle.archetype_store.specs.Layout.{Archetype, archetype_at, column_home, with_column, with_home, AreOfOtherKinds, IsArchetype, IsLayoutOf}
-use Rattle.archetype_store.specs.Slot.{cell_of, column_cells}
-use Rattle.archetype_store.specs.Store.{StoreValue, with_slots, slots_with, homed_in, IsPast}
-use Rattle.archetype_store.specs.Lending.{CanTake, CanComeHome, AreTaken, AreShared, IsColumn, IsAway, all_away, all_home}
+use Rattle.archetype_store.proofs.Common.{◌≡◌, ℕ, zero, suc, ◌+◌, ◌<◌, Bool, true, false, cond, ◌==◌, List, [], ◌∷◌, ◌++◌, length, get_or, take, map, Some, None, refl, sym, ap, ap₂, subst, ◌∙◌, arith, AllByRecursion, list_any, is_same, arc_value, length-map, take_more, kind_number, widths, Cell, Component, Slot, World, row_at, cell_at, IsRising, is_alive, IsComponent, IsSlot, IsWorld, Entity, each-weaker, get_or-update_at-view, at_kind, update_kind, ColumnAt, TakenColumn, SharedColumn, Archetype, archetype_at, column_home, with_column, with_home, AreOfOtherKinds, IsArchetype, IsLayoutOf, cell_of, column_cells, StoreValue, with_slots, slots_with, homed_in, IsPast, CanTake, CanComeHome, AreTaken, AreShared, IsColumn, IsAway, all_away, all_home}
 use Rattle.archetype_store.proofs.ArchetypeColumns.{length-update_kind}
 use Rattle.archetype_store.proofs.ColumnOverlays.{entities_home, same_again}
 

@@ -1,26 +1,8 @@
 -- A column that comes home is a write of each of its entities' cells.
-use Rattle.std.proofs.Common.{◌≡◌, ℕ, zero, suc, ℤ, ◌<◌, Bool, true, false, cond, ◌==◌, ◌&&◌, ◌||◌, List, [], ◌∷◌, get_or, map, Option, Some, None, option_map, refl, sym, ap, ap₂, subst, ◌∙◌}
-use Rattle.std.specs.List.{list_any, AllByRecursion}
-use Rattle.std.proofs.lemmas.Bool.{and_parts, eqb-true}
-use Rattle.model.specs.state.State.{Cell, Component, Slot, fresh_slot, is_living}
-use Rattle.model.specs.state.Rows.{cell_at, IsRising}
-use Rattle.model.specs.state.Commands.{is_alive, with_row}
-use Rattle.model.specs.shown.Overlay.{cell_after, component_after, row_after, slot_after, slots_after}
-use Rattle.model.specs.state.Shape.{IsSlot, IsWorld}
-use Rattle.model.specs.declared.entities.Entity.{Entity}
-use Rattle.model.proofs.lists.Each.{each-weaker}
-use Rattle.model.proofs.lists.Lists.{IsIn_from_any, list_any-IsIn, map_index-same, map_index-map_index, get_or-update_at-view}
-use Rattle.kinds.specs.Components.{widths}
-use Rattle.column_store.specs.Order.{is_same}
+use Rattle.archetype_store.proofs.Common.{◌≡◌, ℕ, zero, suc, ℤ, ◌<◌, Bool, true, false, cond, ◌==◌, ◌&&◌, ◌||◌, List, [], ◌∷◌, get_or, map, Option, Some, None, option_map, refl, sym, ap, ap₂, subst, ◌∙◌, list_any, AllByRecursion, and_parts, Cell, Component, Slot, fresh_slot, is_living, cell_at, IsRising, is_alive, with_row, cell_after, component_after, row_after, slot_after, IsSlot, IsWorld, Entity, each-weaker, IsIn_from_any, list_any-IsIn, map_index-same, map_index-map_index, get_or-update_at-view, widths, is_same, TakenColumn, Archetype, archetype_at, with_column, with_home, has_index, IsLayoutOf, cell_for, row_with, cell_of, StoreValue, with_slots, slots_with, all_home, also_written, written_by, is_reached, IsAfter, AreReached, ColumnsAreOverlays, TakenAreOverlays, TakenClose, eqb-true}
+use Rattle.model.specs.shown.Overlay.{slots_after}
 use Rattle.column_store.proofs.Apart.{same_entity}
 use Rattle.column_store.proofs.Apart.{same_self}
-use Rattle.archetype_store.specs.declared.columns.TakenColumn.{TakenColumn}
-use Rattle.archetype_store.specs.Layout.{Archetype, archetype_at, with_column, with_home, has_index, IsLayoutOf}
-use Rattle.archetype_store.specs.Storage.{cell_for, row_with}
-use Rattle.archetype_store.specs.Slot.{cell_of}
-use Rattle.archetype_store.specs.Store.{StoreValue, with_slots, slots_with}
-use Rattle.archetype_store.specs.Lending.{all_home}
-use Rattle.archetype_store.specs.Overlays.{also_written, written_by, is_reached, IsAfter, AreReached, ColumnsAreOverlays, TakenAreOverlays, TakenClose}
 use Rattle.archetype_store.proofs.RowEdits.{above_absent}
 use Rattle.model.proofs.serial.Laying.{slots_after-none}
 

@@ -1,29 +1,11 @@
 -- Columns of slots and of worlds.
-use Rattle.std.proofs.Common.{◌≡◌, ℕ, Bool, true, false, cond, ◌==◌, List, [], ◌∷◌, length, Option, Some, None, refl, sym, ap, subst, ◌∙◌, arith}
-use Rattle.std.specs.List.{AllByRecursion}
-use Rattle.std.proofs.lemmas.Bool.{and_parts, eqb-true}
-use Rattle.model.specs.state.State.{Cell, Component, Slot, World, fresh_slot}
-use Rattle.model.specs.state.Rows.{row_at, cell_at, IsRising}
-use Rattle.model.specs.state.Commands.{is_alive, with_row}
-use Rattle.model.specs.state.Shape.{IsComponent, IsSlot, IsWorld}
-use Rattle.model.specs.declared.entities.Entity.{Entity}
-use Rattle.model.proofs.lists.Lists.{map-same, list_any-IsIn, map_index-same, map_index-map_index, length-map_index}
-use Rattle.model.proofs.lists.Each.{each-map_index}
-use Rattle.column_store.specs.Order.{is_same}
-use Rattle.entity_table.specs.Ids.{slot_at, lives_at}
-use Rattle.entity_table.specs.Rows.{with_rows}
+use Rattle.archetype_store.proofs.Common.{◌≡◌, ℕ, Bool, true, false, cond, ◌==◌, List, [], ◌∷◌, length, Option, Some, None, refl, sym, ap, subst, ◌∙◌, arith, AllByRecursion, and_parts, Cell, Component, Slot, World, fresh_slot, row_at, cell_at, IsRising, is_alive, with_row, IsComponent, IsSlot, IsWorld, Entity, map-same, list_any-IsIn, map_index-same, map_index-map_index, length-map_index, each-map_index, is_same, slot_at, lives_at, with_rows, archetype_at, is_in_archetype, StorageValue, row_of, holder_of, row_cells, cell_for, cell_held, row_with, IsFilled, IsLaidOut, cell_of, column_cells, HasRows, with_slots, slots_with, IsPast, AreBelow, eqb-true}
 use Rattle.entity_table.proofs.WithRows.{is_alive-with_rows}
 use Rattle.column_store.proofs.Apart.{same_self}
-use Rattle.archetype_store.specs.Layout.{archetype_at, is_in_archetype}
-use Rattle.archetype_store.specs.Storage.{StorageValue, row_of, holder_of, row_cells, cell_for, cell_held, row_with, IsFilled, IsLaidOut}
-use Rattle.archetype_store.specs.Slot.{cell_of, column_cells}
-use Rattle.archetype_store.specs.Inside.{HasRows}
-use Rattle.archetype_store.specs.Store.{with_slots, slots_with, IsPast}
 use Rattle.archetype_store.proofs.ArchetypeColumns.{row_with_kinds}
 use Rattle.archetype_store.proofs.RowEdits.{below_from_rising, rising_from_below}
 use Rattle.archetype_store.proofs.SlotRows.{row_at_slots}
 use Rattle.archetype_store.proofs.WorldShape.{world-slots}
-use Rattle.column_store.specs.Kinds.{AreBelow}
 
 -- ---- cells of slots
 
@@ -46,21 +28,21 @@ row_with_nil k None = refl
 row_with_nil k (Some c) = refl
 
 module _ (book : List Slot) (a b : StorageValue) (n k : ℕ) (cells : List Cell) (filled : IsFilled a n k cells b) (h : HasRows book a) where
-  bare_after : (i : ℕ) (o : Option ℕ) → holder_of a.holders i ≡ o → o ≡ None → row_of b.rows i ≡ []
-  bare_after i None at none = filled.rows i ∙ ap (row_with k (cell_held (archetype_at a.layout n).entities cells i (holder_of a.holders i))) (h.bare i at)
+  empty_after : (i : ℕ) (o : Option ℕ) → holder_of a.holders i ≡ o → o ≡ None → row_of b.rows i ≡ []
+  empty_after i None at none = filled.rows i ∙ ap (row_with k (cell_held (archetype_at a.layout n).entities cells i (holder_of a.holders i))) (h.empty i at)
       ∙ row_with_nil k (cell_held (archetype_at a.layout n).entities cells i (holder_of a.holders i))
-  bare_after i (Some g) at none = absurd (cc)
+  empty_after i (Some g) at none = absurd (cc)
 
   pub rows_homed : HasRows book b
   rows_homed = record {
     live = λ i g at. h.live i g (ap (λ hs. holder_of hs i) (sym filled.holders) ∙ at);
-    bare = λ i at. bare_after i (holder_of a.holders i) refl (ap (λ hs. holder_of hs i) (sym filled.holders) ∙ at);
+    empty = λ i at. empty_after i (holder_of a.holders i) refl (ap (λ hs. holder_of hs i) (sym filled.holders) ∙ at);
   }
 
   row_after : (i : ℕ) (o : Option ℕ) → holder_of a.holders i ≡ o →
       row_of b.rows i ≡ row_with k (cell_for (record { index = i; generation = (slot_at book i).generation }) (archetype_at a.layout n).entities cells) (row_of a.rows i)
   row_after i None at =
-      bare_after i None at refl ∙ sym (ap (row_with k (cell_for (record { index = i; generation = (slot_at book i).generation }) (archetype_at a.layout n).entities cells)) (h.bare i at)
+      empty_after i None at refl ∙ sym (ap (row_with k (cell_for (record { index = i; generation = (slot_at book i).generation }) (archetype_at a.layout n).entities cells)) (h.empty i at)
       ∙ row_with_nil k (cell_for (record { index = i; generation = (slot_at book i).generation }) (archetype_at a.layout n).entities cells))
   row_after i (Some g) at =
       let same = eqb-true (slot_at book i).generation g (and_parts (lives_at book i) ((slot_at book i).generation == g) (h.live i g at)).1 in

@@ -1,19 +1,7 @@
 -- Where columns stand: at home, the tables' alone, read elsewhere too.
-use Rattle.std.proofs.Common.{◌≡◌, ℕ, zero, suc, ◌<◌, Bool, true, false, cond, ◌&&◌, List, [], ◌∷◌, length, get_or, set, map, Option, Some, None, is_some, refl, sym, ap, ap₂, subst, ◌∙◌, arith}
-use Rattle.std.specs.List.{list_all, AllByRecursion}
-use Rattle.std.proofs.lemmas.List.{length-map}
-use Rattle.model.specs.Lists.{is_there}
-use Rattle.model.specs.declared.entities.Entity.{Entity}
-use Rattle.model.proofs.lists.Lists.{map_index-same}
-use Rattle.column_store.specs.Kinds.{AreBelow}
-use Rattle.column_store.specs.Table.{Standing, TableRow, TableValue, is_home, is_owned, IsAlike}
-use Rattle.column_store.specs.Table.Standing.{Owned, Shared, Away}
+use Rattle.archetype_store.proofs.Common.{◌≡◌, ℕ, zero, suc, ◌<◌, Bool, true, false, cond, ◌&&◌, List, [], ◌∷◌, length, get_or, set, map, Option, Some, None, is_some, refl, sym, ap, ap₂, subst, ◌∙◌, arith, list_all, AllByRecursion, length-map, is_there, Entity, map_index-same, AreBelow, Standing, TableRow, TableValue, is_home, is_owned, IsAlike, Owned, Shared, Away, EntityLocation, Archetype, archetype_of, layout_of, AreAllHome, table_at, kinds_at, held_in, held_at, row_or_none, shape_of, is_unshared, AreShaped, AreUnlike, AreHome, AreOwned, AreUnshared, AreEmptyHome, AreAllAlike, StorageValue, archetypes_of, row_in, holder_in, IsOfKinds, IsStored, AreAlike, AreArchetypes}
 use Rattle.column_store.proofs.Edited.{owned_home}
 use Rattle.std.proofs.lemmas.Bool.{and_parts as both}
-use Rattle.archetype_store.specs.declared.locations.EntityLocation.{EntityLocation}
-use Rattle.archetype_store.specs.Layout.{Archetype, archetype_of, layout_of, AreAllHome}
-use Rattle.archetype_store.specs.Tables.{table_at, kinds_at, held_in, held_at, row_or_none, shape_of, is_unshared, AreShaped, AreUnlike, AreHome, AreOwned, AreUnshared, AreBareHome, AreAllAlike}
-use Rattle.archetype_store.specs.Storage.{StorageValue, archetypes_of, row_in, holder_in, IsOfKinds, IsStored, AreAlike, AreArchetypes}
 
 -- ---- all columns of a table
 
@@ -55,9 +43,9 @@ pub owned_are_home : (tables : List TableValue) → AreOwned tables → AreHome 
 owned_are_home [] h = tt
 owned_are_home (t ∷ ts) h = (owned_home t.standings h.0, owned_are_home ts h.1)
 
-pub home_bare : (tables : List TableValue) → AreHome tables → AreBareHome tables
-home_bare [] h = tt
-home_bare (t ∷ ts) h = (λ none. h.0, home_bare ts h.1)
+pub home_empty : (tables : List TableValue) → AreHome tables → AreEmptyHome tables
+home_empty [] h = tt
+home_empty (t ∷ ts) h = (λ none. h.0, home_empty ts h.1)
 
 pub owned_are_unshared : (tables : List TableValue) → AreOwned tables → AreUnshared tables
 owned_are_unshared [] h = tt
@@ -93,15 +81,15 @@ pub home_layout : (tables : List TableValue) → AreHome tables → AreAllHome (
 home_layout [] h = tt
 home_layout (t ∷ ts) h = home_step (is_there t.rows) t (layout_of ts) h.0 (home_layout ts h.1)
 
-bare_step : (b : Bool) (t : TableValue) (others : List Archetype) → (b ≡ false → list_all is_home t.standings ≡ true) → AreAllHome (cond b (archetype_of t ∷ others) others) →
+empty_step : (b : Bool) (t : TableValue) (others : List Archetype) → (b ≡ false → list_all is_home t.standings ≡ true) → AreAllHome (cond b (archetype_of t ∷ others) others) →
     (list_all is_home t.standings ≡ true) × AreAllHome others
-bare_step true t others h k = (sym (homes_seen t.standings) ∙ k.0, k.1)
-bare_step false t others h k = (h refl, k)
+empty_step true t others h k = (sym (homes_seen t.standings) ∙ k.0, k.1)
+empty_step false t others h k = (h refl, k)
 
 -- where the layout's are all at home, all are
-pub home_tables : (tables : List TableValue) → AreBareHome tables → AreAllHome (layout_of tables) → AreHome tables
+pub home_tables : (tables : List TableValue) → AreEmptyHome tables → AreAllHome (layout_of tables) → AreHome tables
 home_tables [] h k = tt
-home_tables (t ∷ ts) h k = let s = bare_step (is_there t.rows) t (layout_of ts) h.0 k in (s.0, home_tables ts h.1 s.1)
+home_tables (t ∷ ts) h k = let s = empty_step (is_there t.rows) t (layout_of ts) h.0 k in (s.0, home_tables ts h.1 s.1)
 
 -- ---- tables that differ in what is read elsewhere too
 
@@ -112,11 +100,11 @@ pub alike_self : (ts : List TableValue) → AreAllAlike ts ts
 alike_self [] = tt
 alike_self (t ∷ ts) = (record { kinds = refl; homes = refl; rows = refl }, alike_self ts)
 
-pub alike_bare : (ts us : List TableValue) → AreAllAlike ts us → AreBareHome ts → AreBareHome us
-alike_bare [] [] h k = tt
-alike_bare [] (u ∷ us) h k = absurd h
-alike_bare (t ∷ ts) [] h k = absurd h
-alike_bare (t ∷ ts) (u ∷ us) h k = (λ none. homes_alike t u h.0 (k.0 (ap is_there (sym h.0.rows) ∙ none)), alike_bare ts us h.1 k.1)
+pub alike_empty : (ts us : List TableValue) → AreAllAlike ts us → AreEmptyHome ts → AreEmptyHome us
+alike_empty [] [] h k = tt
+alike_empty [] (u ∷ us) h k = absurd h
+alike_empty (t ∷ ts) [] h k = absurd h
+alike_empty (t ∷ ts) (u ∷ us) h k = (λ none. homes_alike t u h.0 (k.0 (ap is_there (sym h.0.rows) ∙ none)), alike_empty ts us h.1 k.1)
 
 -- another table in the place of one that is alike
 pub alike_set : (ts : List TableValue) (t : ℕ) (u : TableValue) → IsAlike (table_at ts t) u → AreAllAlike ts (set ts t u)
@@ -221,14 +209,14 @@ value_alike a b h = subst (AreAlike a) (sym h) (record { rows = λ i. refl; hold
 module _ (T : List TableValue) (P : List (Option EntityLocation)) (s : Bool) where
   -- where all columns are the tables' alone, the note can be any
   pub owned_stored : AreArchetypes T P → AreOwned T → IsStored T P s
-  owned_stored whole owned = record { whole = whole; bare = home_bare T (owned_are_home T owned); unshared = λ _. owned_are_unshared T owned }
+  owned_stored whole owned = record { whole = whole; empty = home_empty T (owned_are_home T owned); unshared = λ _. owned_are_unshared T owned }
 
   pub owned_layout : AreOwned T → AreAllHome (layout_of T)
   owned_layout owned = home_layout T (owned_are_home T owned)
 
 module _ (T T' : List TableValue) (P : List (Option EntityLocation)) (s s' : Bool) (alike : AreAllAlike T T') where
-  pub alike_stored : AreArchetypes T P → AreBareHome T → (s' ≡ false → AreUnshared T') → IsStored T' P s'
-  alike_stored whole bare unshared = record { whole = same_whole T T' (alike_same T T' alike) P whole; bare = alike_bare T T' alike bare; unshared = unshared }
+  pub alike_stored : AreArchetypes T P → AreEmptyHome T → (s' ≡ false → AreUnshared T') → IsStored T' P s'
+  alike_stored whole empty unshared = record { whole = same_whole T T' (alike_same T T' alike) P whole; empty = alike_empty T T' alike empty; unshared = unshared }
 
   pub alike_whole : AreArchetypes T P → AreArchetypes T' P
   alike_whole whole = same_whole T T' (alike_same T T' alike) P whole

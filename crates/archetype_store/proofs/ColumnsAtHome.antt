@@ -1,11 +1,6 @@
 -- Where all columns are at home, that of each kind of an archetype is.
-use Rattle.std.proofs.Common.{◌≡◌, ℕ, zero, suc, Bool, true, false, cond, ◌==◌, ◌||◌, List, [], ◌∷◌, length, Some, ap, arith}
-use Rattle.std.specs.List.{list_all, AllByRecursion}
-use Rattle.model.specs.Lists.{has}
-use Rattle.column_store.specs.Kinds.{at_kind}
+use Rattle.archetype_store.proofs.Common.{◌≡◌, ℕ, zero, suc, Bool, true, false, cond, ◌==◌, ◌||◌, List, [], ◌∷◌, length, Some, ap, arith, list_all, AllByRecursion, has, at_kind, Archetype, archetype_at, column_home, AreAllHome, IsArchetype, KindsAreHome}
 use Rattle.std.proofs.lemmas.Bool.{and_parts as both}
-use Rattle.archetype_store.specs.Layout.{Archetype, archetype_at, column_home, AreAllHome, IsArchetype}
-use Rattle.archetype_store.specs.Lending.{KindsAreHome}
 
 home_in : (ks : List ℕ) (k : ℕ) (homes : List Bool) → length homes ≡ length ks → list_all (λ home. home) homes ≡ true → has k ks ≡ true → at_kind ks k homes ≡ Some true
 home_in [] k homes l h there = absurd (cc)

@@ -1,17 +1,6 @@
 -- Who lives without components, told from the id book and the rows.
-use Rattle.std.proofs.Common.{◌≡◌, ℕ, Bool, true, false, cond, not, ◌==◌, ◌&&◌, List, Option, Some, None, refl, sym, ap, ap₂, ◌∙◌}
-use Rattle.std.proofs.lemmas.Bool.{eq-eqb}
-use Rattle.model.specs.declared.entities.Entity.{Entity}
-use Rattle.model.specs.Lists.{is_there}
-use Rattle.model.specs.state.State.{Slot, is_living}
-use Rattle.model.specs.state.Rows.{row_at}
-use Rattle.model.specs.state.Commands.{is_alive}
-use Rattle.entity_table.specs.Ids.{slot_at}
-use Rattle.entity_table.specs.Rows.{with_rows}
+use Rattle.archetype_store.proofs.Common.{◌≡◌, ℕ, Bool, true, false, cond, not, ◌==◌, ◌&&◌, List, Option, Some, None, refl, sym, ap, ap₂, ◌∙◌, eq-eqb, Entity, is_there, Slot, is_living, row_at, is_alive, slot_at, with_rows, StorageValue, row_of, bare_of, HasRows}
 use Rattle.entity_table.proofs.WithRows.{status-with_rows, generation-with_rows}
-use Rattle.archetype_store.specs.Storage.{StorageValue, row_of}
-use Rattle.archetype_store.specs.Slot.{bare_of}
-use Rattle.archetype_store.specs.Inside.{HasRows}
 use Rattle.archetype_store.proofs.SlotRows.{row_at_slots}
 
 and_one : (b c : Bool) → c ≡ true → (b && c) ≡ b
@@ -31,9 +20,9 @@ module _ (book : List Slot) (a : StorageValue) (h : HasRows book a) (i : ℕ) (s
   generation_is : (slot_at book i).generation ≡ (slot_at slots i).generation
   generation_is = sym (generation-with_rows (row_of a.rows) book i) ∙ ap (λ ss. (slot_at ss i).generation) same
 
-  pub bare_is : (g : ℕ) (b r : Bool) → g ≡ (slot_at book i).generation → is_alive book (record { index = i; generation = g }) ≡ b → not (is_there (row_of a.rows i)) ≡ r →
+  pub empty_is : (g : ℕ) (b r : Bool) → g ≡ (slot_at book i).generation → is_alive book (record { index = i; generation = g }) ≡ b → not (is_there (row_of a.rows i)) ≡ r →
       cond (b && r) (Some (record { index = i; generation = g })) None ≡ bare_of i (slot_at slots i)
-  bare_is g b r at alive bare =
+  empty_is g b r at alive empty =
       ap₂ (λ x y. cond (x && y) (let o : Option Entity = Some (record { index = i; generation = g }) in o) None)
-      (sym alive ∙ ap (λ j. is_alive book (record { index = i; generation = j })) at ∙ living) (sym bare ∙ ap (λ row. not (is_there row)) row_is)
+      (sym alive ∙ ap (λ j. is_alive book (record { index = i; generation = j })) at ∙ living) (sym empty ∙ ap (λ row. not (is_there row)) row_is)
       ∙ ap (λ j. cond (is_living (slot_at slots i).status && not (is_there (slot_at slots i).row)) (let o : Option Entity = Some (record { index = i; generation = j }) in o) None) (at ∙ generation_is)

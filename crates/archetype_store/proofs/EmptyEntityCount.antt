@@ -1,25 +1,12 @@
 -- Somebody lives without components just where more live than the archetypes have entities.
-use Rattle.std.proofs.Common.{ℕ, zero, suc, ◌+◌, ◌<◌, ◌≤◌, nat_lt, Bool, true, false, ◌==◌, not, ◌≡◌, ◌≢◌, ◌⊎◌, List, [], ◌∷◌, ◌++◌, length, map, refl, sym, ap, ap₂, ◌∙◌, subst, inl, inr, arith, lt-ltb, length-append}
-use Rattle.std.specs.Prelude.{sum_by, slice_get, Some}
-use Rattle.std.specs.List.{AllByRecursion, list_any}
-use Rattle.std.proofs.lemmas.Bool.{eqb-true, eq-eqb, and_parts, and_from, le-ltb, false≢true}
+use Rattle.archetype_store.proofs.Common.{ℕ, zero, suc, ◌+◌, ◌<◌, ◌≤◌, nat_lt, Bool, true, false, ◌==◌, not, ◌≡◌, ◌≢◌, ◌⊎◌, List, [], ◌∷◌, ◌++◌, length, map, refl, sym, ap, ap₂, ◌∙◌, subst, inl, inr, arith, lt-ltb, length-append, sum_by, slice_get, Some, AllByRecursion, list_any, eq-eqb, and_parts, and_from, false≢true, has, head_or, tail_of, update_at, IsIn, is_there, Entity, Slot, Component, fresh_slot, is_living, row_at, is_alive, freed, get_or-update_at_other, IsIn_from_any, list_any-IsIn, ==-same, is_same, AreApart, slot_at, lives_at, living_count, Archetype, IsArchetype, archetype_at, is_in_archetype, AreOfOtherKinds, IsLayoutOf, lives_empty, entity_count, entities_seen, ArchetypeView, eqb-true}
+use Rattle.std.proofs.lemmas.Bool.{le-ltb}
 use Rattle.std.proofs.lemmas.List.Sums.{sum_by-cons}
-use Rattle.model.specs.Lists.{has, head_or, tail_of, update_at, IsIn, is_there}
-use Rattle.model.specs.declared.entities.Entity.{Entity}
-use Rattle.model.specs.state.State.{Slot, Component, fresh_slot, is_living}
-use Rattle.model.specs.state.Rows.{row_at}
-use Rattle.model.specs.state.Commands.{is_alive, freed}
 use Rattle.model.proofs.progress.Width.{IsOnce}
-use Rattle.model.proofs.lists.Lists.{get_or-update_at_other, has-IsIn, IsIn_from_has, IsIn_from_any, IsIn-append, IsIn_left, IsIn_right, list_any-IsIn, ==-same}
-use Rattle.column_store.specs.Order.{is_same, AreApart}
+use Rattle.model.proofs.lists.Lists.{has-IsIn, IsIn_from_has, IsIn-append, IsIn_left, IsIn_right}
 use Rattle.column_store.proofs.Apart.{same_self, same_entity}
-use Rattle.entity_table.specs.Ids.{slot_at, lives_at, living_count}
 use Rattle.entity_table.proofs.Counting.{count-less, count-none, none-count}
 use Rattle.entity_table.proofs.Releases.{lives-freed}
-use Rattle.archetype_store.specs.Layout.{Archetype, IsArchetype, archetype_at, is_in_archetype, AreOfOtherKinds, IsLayoutOf}
-use Rattle.archetype_store.specs.LivingSets.{is_bare, entity_count}
-use Rattle.archetype_store.specs.View.{entities_seen}
-use Rattle.archetype_store.specs.declared.tables.ArchetypeView.{ArchetypeView}
 use Rattle.archetype_store.proofs.LivingSets.{IsPlaceFor, place-for, any-at, within-end}
 
 -- ---- numbers, each once
@@ -262,25 +249,25 @@ module _ (slots : List Slot) (layout : List Archetype) (laid : IsLayoutOf slots 
   laid_living = let e = counted in omega (arith, e)
 
   -- who lives and has no index of them has no components
-  bare_or_in : (j : ℕ) → lives_at slots j ≡ true → (row : List Component) → row_at slots j ≡ row → is_there row ≡ true → IsIn j indices
-  bare_or_in j lives row same there =
+  empty_or_in : (j : ℕ) → lives_at slots j ≡ true → (row : List Component) → row_at slots j ≡ row → is_there row ≡ true → IsIn j indices
+  empty_or_in j lives row same there =
       let slot = slot_at slots j in
       let e : Entity = record { index = j; generation = slot.generation } in
       let found = laid.every e (and_from (is_living slot.status) (slot.generation == slot.generation) lives (==-same slot.generation)) (ap is_there same ∙ there) in
       in-indices layout found.0 e found.1
 
   -- where none lives without components none is left
-  none_left : list_any is_bare slots ≡ false → living_count (freed_all indices slots) ≡ 0
+  none_left : list_any lives_empty slots ≡ false → living_count (freed_all indices slots) ≡ 0
   none_left none = count-none (freed_all indices slots) (λ j. go j (has j indices) refl)
     where
-      bare : (j : ℕ) → lives_at slots j ≡ true → (IsIn j indices → ⊥) → (row : List Component) → row_at slots j ≡ row → ⊥
-      bare j lives other [] same =
-          let passes : is_bare (slot_at slots j) ≡ true = and_from (is_living (slot_at slots j).status) (not (is_there (slot_at slots j).row)) lives (ap (λ row. not (is_there row)) same) in
-          false≢true (sym none ∙ any-at is_bare slots j (within-end slots j lives) passes)
-      bare j lives other (c ∷ cs) same = other (bare_or_in j lives (c ∷ cs) same refl)
+      empty : (j : ℕ) → lives_at slots j ≡ true → (IsIn j indices → ⊥) → (row : List Component) → row_at slots j ≡ row → ⊥
+      empty j lives other [] same =
+          let passes : lives_empty (slot_at slots j) ≡ true = and_from (is_living (slot_at slots j).status) (not (is_there (slot_at slots j).row)) lives (ap (λ row. not (is_there row)) same) in
+          false≢true (sym none ∙ any-at lives_empty slots j (within-end slots j lives) passes)
+      empty j lives other (c ∷ cs) same = other (empty_or_in j lives (c ∷ cs) same refl)
 
       dead : (j : ℕ) → (IsIn j indices → ⊥) → (b : Bool) → lives_at slots j ≡ b → b ≡ false
-      dead j other true e = absurd (bare j e other (row_at slots j) refl)
+      dead j other true e = absurd (empty j e other (row_at slots j) refl)
       dead j other false e = refl
 
       go : (j : ℕ) → (b : Bool) → has j indices ≡ b → lives_at (freed_all indices slots) j ≡ false
@@ -290,7 +277,7 @@ module _ (slots : List Slot) (layout : List Archetype) (laid : IsLayoutOf slots 
           lives-freed_all indices slots j other ∙ dead j other (lives_at slots j) refl
 
   -- where some does some is
-  some_left : IsPlaceFor is_bare slots → living_count (freed_all indices slots) ≡ 0 → ⊥
+  some_left : IsPlaceFor lives_empty slots → living_count (freed_all indices slots) ≡ 0 → ⊥
   some_left r none =
       let slot = slot_at slots r.index in
       let parts = and_parts (is_living slot.status) (not (is_there slot.row)) r.passes in
@@ -305,12 +292,12 @@ module _ (slots : List Slot) (layout : List Archetype) (laid : IsLayoutOf slots 
           archetype.shape.some (sym kinds ∙ ap (λ i. map (λ (c : Component). c.kind) (row_at slots i)) q.same ∙ ap (map (λ (c : Component). c.kind)) same)
 
   -- somebody lives without components just where more live than the archetypes have
-  pub more_live : nat_lt (entities_of layout) (living_count slots) ≡ list_any is_bare slots
-  more_live = go (list_any is_bare slots) refl
+  pub more_live : nat_lt (entities_of layout) (living_count slots) ≡ list_any lives_empty slots
+  more_live = go (list_any lives_empty slots) refl
     where
-      go : (b : Bool) → list_any is_bare slots ≡ b → nat_lt (entities_of layout) (living_count slots) ≡ b
+      go : (b : Bool) → list_any lives_empty slots ≡ b → nat_lt (entities_of layout) (living_count slots) ≡ b
       go true e =
-          let left = above_zero (living_count (freed_all indices slots)) (some_left (place-for is_bare slots e)) in
+          let left = above_zero (living_count (freed_all indices slots)) (some_left (place-for lives_empty slots e)) in
           lt-ltb (entities_of layout) (living_count slots) (omega (arith, counted, left))
       go false e = le-ltb (entities_of layout) (living_count slots) (omega (arith, counted, none_left e))
 

@@ -1,14 +1,6 @@
 -- The tables that fit a shape, and the archetypes that they are.
-use Rattle.std.proofs.Common.{◌≡◌, ℕ, zero, suc, ◌+◌, ◌<◌, ◌≤◌, Bool, true, false, cond, List, [], ◌∷◌, ◌++◌, length, get_or, set, drop, map, Option, Some, None, refl, sym, ap, ap₂, subst, ◌∙◌, arith, append_assoc}
-use Rattle.std.proofs.lemmas.List.{length-append, drop_more, drop_all, append-nil}
-use Rattle.std.proofs.Math.Seq.{get_or-append_seam}
-use Rattle.model.specs.Lists.{is_there}
-use Rattle.column_store.specs.Table.{TableValue}
-use Rattle.archetype_store.specs.declared.shapes.KeptShape.{KeptShape}
-use Rattle.archetype_store.specs.Layout.{archetype_of, layout_of}
-use Rattle.archetype_store.specs.LivingSets.{set_number}
-use Rattle.archetype_store.specs.Shapes.{fits, fitting_from, fitting_tables, numbers_from, with_some, numbered, Fitting, noted, kept_seen, AreListed}
-use Rattle.archetype_store.specs.Tables.{table_at, kinds_at, number_of, AreAllAlike}
+use Rattle.archetype_store.proofs.Common.{◌≡◌, ℕ, zero, suc, ◌+◌, ◌<◌, ◌≤◌, Bool, true, false, cond, List, [], ◌∷◌, ◌++◌, length, get_or, set, drop, map, Option, Some, None, refl, sym, ap, ap₂, subst, ◌∙◌, arith, append_assoc, drop_more, drop_all, append-nil, get_or-append_seam, is_there, TableValue, KeptShape, archetype_of, layout_of, set_number, fits, fitting_from, fitting_tables, numbers_from, with_some, numbered, Fitting, noted, kept_seen, AreListed, table_at, kinds_at, number_of, AreAllAlike}
+use Rattle.std.proofs.lemmas.List.{length-append}
 
 -- ---- tables of the same kinds
 

@@ -1,19 +1,7 @@
 -- Kinds in order, and tables that are made.
-use Rattle.std.proofs.Common.{◌≡◌, ◌≢◌, ℕ, zero, suc, ◌+◌, ◌<◌, ◌≤◌, Bool, true, false, cond, ◌==◌, ◌||◌, List, [], ◌∷◌, ◌++◌, map, filter, refl, sym, ap, ap₂, subst, ◌∙◌, arith, Result, Ok, Err, OnOk, OnErr}
-use Rattle.std.proofs.lemmas.Bool.{eqb-true, eq-eqb}
-use Rattle.std.proofs.lemmas.Bool.Decides.{nat_tests}
-use Rattle.std.specs.List.{AllByRecursion}
-use Rattle.std.proofs.lemmas.List.{length-map}
-use Rattle.column_store.specs.Table.Standing.{Owned}
-use Rattle.kinds.specs.declared.kind.Kind.{Kind}
-use Rattle.kinds.specs.Kind.{kind_count, kind_number, numbers_from}
+use Rattle.archetype_store.proofs.Common.{◌≡◌, ◌≢◌, ℕ, zero, suc, ◌+◌, ◌<◌, ◌≤◌, Bool, true, false, cond, ◌==◌, ◌||◌, List, [], ◌∷◌, ◌++◌, map, filter, refl, sym, ap, ap₂, subst, ◌∙◌, arith, Result, Ok, Err, OnOk, OnErr, eq-eqb, nat_tests, AllByRecursion, length-map, Owned, Kind, kind_count, kind_number, has, StampedValue, stamped_number, in_order, AreBelow, TableValue, empty_table, AreShaped, AreUnlike, IsGrown, eqb-true}
+use Rattle.kinds.specs.Kind.{numbers_from}
 use Rattle.kinds.proofs.Numbers.{number_below}
-use Rattle.model.specs.Lists.{has}
-use Rattle.column_store.specs.declared.stamped.StampedValue.{StampedValue}
-use Rattle.column_store.specs.Cells.{stamped_number}
-use Rattle.column_store.specs.Kinds.{in_order, AreBelow}
-use Rattle.column_store.specs.Table.{TableValue, empty_table}
-use Rattle.archetype_store.specs.Tables.{AreShaped, AreUnlike, IsGrown}
 use Rattle.archetype_store.proofs.TablesAfterRowChange.{grown_more}
 use Rattle.archetype_store.proofs.ArchetypeColumns.{not_head as not_equal_from}
 

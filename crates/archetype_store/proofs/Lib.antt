@@ -1,3 +1,4 @@
+pub mod Common
 mod ListSteps
 pub mod Rows
 pub mod RowPlaces
@@ -24,6 +25,7 @@ pub mod BookChanges
 pub mod TableGrowth
 pub mod OneChange
 pub mod RowSteps
+pub mod TableCells
 pub mod PlacedRow
 pub mod RowsChanged
 pub mod SlotRows
@@ -43,4 +45,6 @@ pub mod ColumnsAtHome
 pub mod TableCopies
 pub mod NewEntity
 pub mod NewSlots
+pub mod StoreColumns
+pub mod StoreChanges
 pub mod StoreKept

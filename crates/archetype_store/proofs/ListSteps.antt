@@ -1,9 +1,5 @@
 -- One step of a loop over a list.
-use Rattle.std.proofs.Common.{◌≡◌, ℕ, suc, ◌+◌, ◌<◌, ◌≤◌, Bool, true, false, cond, List, [], ◌∷◌, ◌++◌, length, get_or, drop, Option, Some, None, append_assoc, add-one, sym, ap, ◌∙◌}
-use Rattle.std.proofs.lemmas.List.{drop_more, drop_all, append-nil}
-use Rattle.column_store.specs.Table.{TableValue}
-use Rattle.archetype_store.specs.LivingSets.{set_number}
-use Rattle.archetype_store.specs.Shapes.{fits, fitting_tables, with_some, numbered}
+use Rattle.archetype_store.proofs.Common.{◌≡◌, ℕ, suc, ◌+◌, ◌<◌, ◌≤◌, Bool, true, false, cond, List, [], ◌∷◌, ◌++◌, length, get_or, drop, Option, Some, None, append_assoc, add-one, sym, ap, ◌∙◌, drop_more, drop_all, append-nil, TableValue, set_number, fits, fitting_tables, with_some, numbered}
 
 -- the archetypes of tables: one more, or none
 numbered_here : (numbers : List (Option ℕ)) (ts : List ℕ) (i : ℕ) (old : List ℕ) (o : Option ℕ) → i < length ts → o ≡ get_or numbers (get_or ts i 0) None → old ++ numbered numbers (drop i ts) ≡ numbered numbers ts →

@@ -1,25 +1,11 @@
 -- The numbers of the kinds of the archetypes, and where an entity lives without components that of the empty set, are those of the living.
-use Rattle.std.proofs.Common.{ℕ, zero, suc, ◌+◌, ◌^◌, ◌<◌, Bool, true, false, not, ◌==◌, ◌≡◌, ◌⊎◌, List, [], ◌∷◌, ◌++◌, length, get_or, take, map, refl, sym, ap, ◌∙◌, subst, inl, inr, arith}
-use Rattle.std.specs.Prelude.{bit_or}
-use Rattle.std.specs.List.{AllByRecursion, list_any}
-use Rattle.std.proofs.lemmas.Bool.{and_parts, and_from, or_cases, or_from, false≢true}
-use Rattle.std.proofs.lemmas.List.{take_more, map-append}
-use Rattle.model.specs.Lists.{IsIn, is_there}
+use Rattle.archetype_store.proofs.Common.{ℕ, zero, suc, ◌^◌, ◌<◌, Bool, true, false, not, ◌==◌, ◌≡◌, ◌⊎◌, List, [], ◌∷◌, length, get_or, map, refl, sym, ap, ◌∙◌, subst, inl, inr, arith, bit_or, AllByRecursion, list_any, and_parts, and_from, false≢true, IsIn, is_there, Entity, Slot, Component, fresh_slot, is_living, row_at, is_alive, with_number, kind_sets_of, list_any-IsIn, IsIn_from_any, ==-same, is_same, Archetype, archetype_at, is_in_archetype, IsArchetype, IsLayoutOf, set_number, numbers_with, first_numbers, lives_empty}
+use Rattle.model.specs.state.KindSets.{kinds_number}
+use Rattle.std.proofs.lemmas.Bool.{or_cases}
 use Rattle.model.specs.declarations.Hierarchy.{IsRising}
-use Rattle.model.specs.declared.entities.Entity.{Entity}
-use Rattle.model.specs.state.State.{Slot, Component, fresh_slot, is_living}
-use Rattle.model.specs.state.Rows.{row_at}
-use Rattle.model.specs.state.Commands.{is_alive}
-use Rattle.model.specs.state.KindSets.{kinds_number, with_number, kind_sets_of}
-use Rattle.model.proofs.lists.Lists.{list_any-IsIn, IsIn_from_any, ==-same}
 use Rattle.model.proofs.serial.There.{number_here, number_stays}
 use Rattle.model.proofs.serial.KindLists.{IsOfLiving, number-cases, with_number-rises, kind_sets-only}
-use Rattle.column_store.specs.Order.{is_same}
 use Rattle.column_store.proofs.Apart.{same_self}
-use Rattle.archetype_store.specs.Layout.{Archetype, archetype_at, is_in_archetype, IsArchetype, IsLayoutOf}
-use Rattle.archetype_store.specs.LivingSets.{set_number, numbers_with, first_numbers, is_bare}
-use Rattle.archetype_store.specs.View.{kinds_seen}
-use Rattle.archetype_store.specs.declared.tables.ArchetypeView.{ArchetypeView}
 
 -- ---- one number
 
@@ -30,18 +16,6 @@ number-same [] = refl
 number-same (c ∷ cs) = ap (bit_or (2 ^ c.kind)) (number-same cs)
 
 -- ---- numbers with those of more sets
-
--- those of some sets and then of more
-numbers_with-append : (sets more : List (List ℕ)) (ns : List ℕ) → numbers_with (sets ++ more) ns ≡ numbers_with more (numbers_with sets ns)
-numbers_with-append [] more ns = refl
-numbers_with-append (kinds ∷ sets) more ns = numbers_with-append sets more (with_number (set_number kinds) ns)
-
--- those of one view of an archetype more
-pub numbers-more : (views : List ArchetypeView) (i : ℕ) (d : ArchetypeView) (ns : List ℕ) → i < length views →
-    numbers_with (map kinds_seen (take (i + 1) views)) ns ≡ with_number (set_number (kinds_seen (get_or views i d))) (numbers_with (map kinds_seen (take i views)) ns)
-numbers-more views i d ns below =
-    ap (λ (sets : List (List ℕ)). numbers_with sets ns) (ap (map kinds_seen) (take_more views i d below) ∙ map-append kinds_seen (take i views) (get_or views i d ∷ []))
-    ∙ numbers_with-append (map kinds_seen (take i views)) (kinds_seen (get_or views i d) ∷ []) ns
 
 -- they rise
 numbers_with-rise : (sets : List (List ℕ)) (ns : List ℕ) → IsRising ns → IsRising (numbers_with sets ns)
@@ -108,11 +82,6 @@ any-at test (slot ∷ slots) (suc index) l h = go (IsIn_from_any test slots (any
     go : (x : Slot) × IsIn x slots × (test x ≡ true) → list_any test (slot ∷ slots) ≡ true
     go found = list_any-IsIn test found.0 (slot ∷ slots) (inr found.1) found.2
 
--- where none of the indices' slots passes none does
-pub none-at : (test : Slot → Bool) (slots : List Slot) → ((index : ℕ) → index < length slots → test (get_or slots index fresh_slot) ≡ false) → list_any test slots ≡ false
-none-at test [] h = refl
-none-at test (slot ∷ slots) h = or_from (test slot) (list_any test slots) (h zero (omega arith)) (none-at test slots (λ index l. h (suc index) (omega arith)))
-
 -- an index past the end has no one who lives
 pub within-end : (slots : List Slot) (index : ℕ) → is_living (get_or slots index fresh_slot).status ≡ true → index < length slots
 within-end [] index h = absurd (false≢true h)
@@ -144,9 +113,9 @@ kinds-in (a ∷ layout) (suc n) e h = inr (kinds-in layout n e h)
 
 module _ (slots : List Slot) (layout : List Archetype) (laid : IsLayoutOf slots layout) where
   -- one who lives without components has no kinds
-  of-bare : IsPlaceFor is_bare slots → IsOfLiving slots 0
+  of-empty : IsPlaceFor lives_empty slots → IsOfLiving slots 0
   unfolding kinds_number
-  of-bare r = go (row_at slots r.index) refl (and_parts (is_living slot.status) (not (is_there slot.row)) r.passes)
+  of-empty r = go (row_at slots r.index) refl (and_parts (is_living slot.status) (not (is_there slot.row)) r.passes)
     where
       slot : Slot
       slot = get_or slots r.index fresh_slot
@@ -156,8 +125,8 @@ module _ (slots : List Slot) (layout : List Archetype) (laid : IsLayoutOf slots 
       go (c ∷ cs) same h = absurd (false≢true h.1)
 
   -- the number of the empty set is there for one who lives
-  of-first : (n : ℕ) (without : Bool) → list_any is_bare slots ≡ without → IsIn n (first_numbers without) → IsOfLiving slots n
-  of-first n true e (inl zeroed) = subst (IsOfLiving slots) (sym zeroed) (of-bare (place-for is_bare slots e))
+  of-first : (n : ℕ) (without : Bool) → list_any lives_empty slots ≡ without → IsIn n (first_numbers without) → IsOfLiving slots n
+  of-first n true e (inl zeroed) = subst (IsOfLiving slots) (sym zeroed) (of-empty (place-for lives_empty slots e))
   of-first n true e (inr i) = absurd i
   of-first n false e i = absurd i
 
@@ -177,11 +146,11 @@ module _ (slots : List Slot) (layout : List Archetype) (laid : IsLayoutOf slots 
           }
 
   -- each of the numbers is of one who lives
-  theirs_are : (n : ℕ) → IsIn n (numbers_with (map (λ a. a.kinds) layout) (first_numbers (list_any is_bare slots))) → IsOfLiving slots n
-  theirs_are n i = go (numbers_with-cases n (map (λ a. a.kinds) layout) (first_numbers (list_any is_bare slots)) i)
+  theirs_are : (n : ℕ) → IsIn n (numbers_with (map (λ a. a.kinds) layout) (first_numbers (list_any lives_empty slots))) → IsOfLiving slots n
+  theirs_are n i = go (numbers_with-cases n (map (λ a. a.kinds) layout) (first_numbers (list_any lives_empty slots)) i)
     where
-      go : IsIn n (first_numbers (list_any is_bare slots)) ⊎ IsSetOf n (map (λ a. a.kinds) layout) → IsOfLiving slots n
-      go (inl j) = of-first n (list_any is_bare slots) refl j
+      go : IsIn n (first_numbers (list_any lives_empty slots)) ⊎ IsSetOf n (map (λ a. a.kinds) layout) → IsOfLiving slots n
+      go (inl j) = of-first n (list_any lives_empty slots) refl j
       go (inr r) = of-archetype n r.kinds r.number (archetype-of layout r.kinds laid.each r.among)
 
   -- where there is one without components 0 is there
@@ -191,7 +160,7 @@ module _ (slots : List Slot) (layout : List Archetype) (laid : IsLayoutOf slots 
 
   -- the number of each who lives is there
   each_listed : (index : ℕ) → is_living (get_or slots index fresh_slot).status ≡ true →
-      IsIn (kinds_number (row_at slots index)) (numbers_with (map (λ a. a.kinds) layout) (first_numbers (list_any is_bare slots)))
+      IsIn (kinds_number (row_at slots index)) (numbers_with (map (λ a. a.kinds) layout) (first_numbers (list_any lives_empty slots)))
   unfolding kinds_number
   each_listed index lives = go (row_at slots index) refl
     where
@@ -204,17 +173,17 @@ module _ (slots : List Slot) (layout : List Archetype) (laid : IsLayoutOf slots 
       alive : is_alive slots entity ≡ true
       alive = and_from (is_living slot.status) (slot.generation == slot.generation) lives (==-same slot.generation)
 
-      go : (row : List Component) → row_at slots index ≡ row → IsIn (kinds_number row) (numbers_with (map (λ a. a.kinds) layout) (first_numbers (list_any is_bare slots)))
+      go : (row : List Component) → row_at slots index ≡ row → IsIn (kinds_number row) (numbers_with (map (λ a. a.kinds) layout) (first_numbers (list_any lives_empty slots)))
       go [] same =
-          let bare : is_bare slot ≡ true = and_from (is_living slot.status) (not (is_there slot.row)) lives (ap (λ row. not (is_there row)) same) in
-          numbers_with-stay 0 (map (λ a. a.kinds) layout) (first_numbers (list_any is_bare slots))
-          (first-there (list_any is_bare slots) (any-at is_bare slots index (within-end slots index lives) bare))
+          let empty : lives_empty slot ≡ true = and_from (is_living slot.status) (not (is_there slot.row)) lives (ap (λ row. not (is_there row)) same) in
+          numbers_with-stay 0 (map (λ a. a.kinds) layout) (first_numbers (list_any lives_empty slots))
+          (first-there (list_any lives_empty slots) (any-at lives_empty slots index (within-end slots index lives) empty))
       go (c ∷ cs) same =
           let found = laid.every entity alive (ap is_there same) in
           let theirs = laid.theirs found.0 entity found.1 in
-          subst (λ n. IsIn n (numbers_with (map (λ a. a.kinds) layout) (first_numbers (list_any is_bare slots))))
+          subst (λ n. IsIn n (numbers_with (map (λ a. a.kinds) layout) (first_numbers (list_any lives_empty slots))))
           (ap set_number (sym theirs.1 ∙ ap (map (λ d. d.kind)) same) ∙ sym (number-same (c ∷ cs)))
-          (numbers_with-each (archetype_at layout found.0).kinds (map (λ a. a.kinds) layout) (first_numbers (list_any is_bare slots)) (kinds-in layout found.0 entity found.1))
+          (numbers_with-each (archetype_at layout found.0).kinds (map (λ a. a.kinds) layout) (first_numbers (list_any lives_empty slots)) (kinds-in layout found.0 entity found.1))
 
   -- the first numbers rise
   first-rises : (without : Bool) → IsRising (first_numbers without)
@@ -222,7 +191,7 @@ module _ (slots : List Slot) (layout : List Archetype) (laid : IsLayoutOf slots 
   first-rises false = tt
 
   -- the numbers are the kind sets of the living
-  pub living_sets : numbers_with (map (λ a. a.kinds) layout) (first_numbers (list_any is_bare slots)) ≡ kind_sets_of slots
-  living_sets = kind_sets-only slots (numbers_with (map (λ a. a.kinds) layout) (first_numbers (list_any is_bare slots)))
-      (numbers_with-rise (map (λ a. a.kinds) layout) (first_numbers (list_any is_bare slots)) (first-rises (list_any is_bare slots)))
+  pub living_sets : numbers_with (map (λ a. a.kinds) layout) (first_numbers (list_any lives_empty slots)) ≡ kind_sets_of slots
+  living_sets = kind_sets-only slots (numbers_with (map (λ a. a.kinds) layout) (first_numbers (list_any lives_empty slots)))
+      (numbers_with-rise (map (λ a. a.kinds) layout) (first_numbers (list_any lives_empty slots)) (first-rises (list_any lives_empty slots)))
       theirs_are each_listed

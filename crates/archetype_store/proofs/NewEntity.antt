@@ -1,22 +1,9 @@
 -- A new entity: the id that a grant of one gives, and what its row makes of the slots.
-use Rattle.std.proofs.Common.{◌≡◌, ℕ, ◌||◌, List, [], ◌∷◌, length, get_or, ap, sym, ◌∙◌, arith}
-use Rattle.std.specs.List.{AllByRecursion}
-use Rattle.model.specs.declared.entities.Entity.{Entity}
-use Rattle.model.specs.Lists.{head_or, update_at}
-use Rattle.model.specs.state.State.{Component, Slot, is_granted, is_living}
-use Rattle.model.specs.state.Ids.{granted_ids, grant}
-use Rattle.model.specs.sessions.Inputs.{next_id}
-use Rattle.entity_table.specs.Ids.{IsGranted}
-use Rattle.entity_table.specs.Rows.{with_rows}
+use Rattle.archetype_store.proofs.Common.{◌≡◌, ℕ, ◌||◌, List, [], ◌∷◌, length, get_or, ap, sym, ◌∙◌, arith, AllByRecursion, Entity, head_or, update_at, Component, Slot, is_granted, is_living, granted_ids, grant, next_id, IsGranted, with_rows, Fate, EntityChange, book_changed, changed, slot_left, IsHeldBy, StorageValue, row_of, HaveRows, HasRows}
 use Rattle.entity_table.proofs.WithRows.{granted_ids-with_rows, grant-with_rows}
-use Rattle.archetype_store.specs.declared.change.Fate.{Fate}
-use Rattle.archetype_store.specs.declared.change.EntityChange.{EntityChange}
-use Rattle.archetype_store.specs.Changes.{book_changed, changed, slot_left, IsHeldBy}
-use Rattle.archetype_store.specs.Storage.{StorageValue, row_of, HaveRows}
-use Rattle.archetype_store.specs.Inside.{HasRows}
 use Rattle.archetype_store.proofs.OneChange.{one_changed}
 use Rattle.archetype_store.proofs.BookChanges.{slots_changed}
-use Rattle.archetype_store.proofs.SlotRows.{past_bare}
+use Rattle.archetype_store.proofs.SlotRows.{past_empty}
 
 -- a list of one
 pub alone : (xs : List Entity) (e : Entity) → length xs ≡ 1 → e ≡ get_or xs 0 e → xs ≡ e ∷ []
@@ -40,6 +27,6 @@ pub slots_new : (book : List Slot) (a b : StorageValue) (e : Entity) (fate : Fat
 slots_new book a b e fate has id rows =
     let c : EntityChange = record { entity = e; fate = fate } in
     slots_changed (c ∷ []) (grant 1 book) (row_of a.rows) (row_of b.rows) (tt, tt) rows.rows
-    ∙ ap (changed (c ∷ [])) (sym (grant-with_rows 1 (row_of a.rows) book (past_bare book a has)))
+    ∙ ap (changed (c ∷ [])) (sym (grant-with_rows 1 (row_of a.rows) book (past_empty book a has)))
     ∙ one_changed c (grant 1 (with_rows (row_of a.rows) book))
     ∙ ap (λ (x : Entity). update_at x.index (slot_left fate) (grant 1 (with_rows (row_of a.rows) book))) (id_next book (row_of a.rows) e id)

@@ -1,16 +1,7 @@
 -- What an index behind the last one makes of slots and of a world.
-use Rattle.std.proofs.Common.{◌≡◌, ℕ, zero, suc, ◌<◌, ◌≤◌, true, ◌⊎◌, inl, inr, List, [], ◌∷◌, ◌++◌, length, ap, sym, ◌∙◌, arith}
-use Rattle.std.proofs.lemmas.Bool.{false≢true, cases_lt}
-use Rattle.std.proofs.lemmas.List.{get_or_append_left, get_or_past, length-append}
-use Rattle.model.specs.declared.entities.Entity.{Entity}
-use Rattle.model.specs.state.State.{Component, Slot, World, fresh_slot, most_indices}
-use Rattle.model.specs.state.Commands.{is_alive, with_row}
-use Rattle.model.specs.state.Shape.{IsSlot, IsWorld}
-use Rattle.model.proofs.lists.Each.{each-append}
-use Rattle.entity_table.specs.Rows.{with_rows}
+use Rattle.archetype_store.proofs.Common.{◌≡◌, ℕ, zero, suc, ◌<◌, ◌≤◌, true, ◌⊎◌, inl, inr, List, [], ◌∷◌, ◌++◌, length, ap, sym, ◌∙◌, arith, false≢true, cases_lt, get_or_append_left, get_or_past, Entity, Component, Slot, World, fresh_slot, most_indices, is_alive, with_row, IsSlot, IsWorld, each-append, with_rows, empty_slot, with_slots}
+use Rattle.std.proofs.lemmas.List.{length-append}
 use Rattle.entity_table.specs.declared.status.Status.{Status}
-use Rattle.entity_table.specs.Status.{empty_slot}
-use Rattle.archetype_store.specs.Store.{with_slots}
 use Rattle.archetype_store.proofs.WorldShape.{world-slots}
 
 -- who lives lives on

@@ -1,29 +1,11 @@
 -- The change of one entity that lives.
-use Rattle.std.proofs.Common.{◌≡◌, ℕ, ◌==◌, ◌≤◌, true, false, cond, zero, suc, List, [], ◌∷◌, get_or, Option, Some, None, is_some, refl, sym, ap, ap₂, subst, ◌∙◌, arith, eqb-true}
-use Rattle.std.specs.List.{AllByRecursion}
-use Rattle.std.proofs.lemmas.Bool.{and_parts, or_left, false≢true}
-use Rattle.std.proofs.lemmas.Bool.Decides.{nat_tests}
-use Rattle.kinds.specs.declared.value.Value.{Value}
-use Rattle.kinds.specs.Value.{value_number, value_words}
-use Rattle.kinds.specs.Components.{widths}
+use Rattle.archetype_store.proofs.Common.{◌≡◌, ℕ, ◌==◌, ◌≤◌, true, false, cond, zero, suc, List, [], ◌∷◌, get_or, Option, Some, None, is_some, refl, sym, ap, ap₂, subst, ◌∙◌, arith, eqb-true, AllByRecursion, and_parts, or_left, false≢true, nat_tests, Value, value_number, value_words, widths, map_index, update_at, Entity, Cell, Component, Slot, Status, World, fresh_slot, is_living, is_granted, Vacant, Granted, Living, Retired, IsRising, row_at, cell_at, insert_component, remove_component, IsComponent, IsSlot, IsWorld, is_alive, with_row, map_index-same, each-weaker, slot_at, Fate, EntityChange, cell_of, components_left, slot_left, change_at, changed, CanChange}
 use Rattle.kinds.proofs.Wide.{value_width}
-use Rattle.model.specs.Lists.{map_index, update_at}
-use Rattle.model.specs.declared.entities.Entity.{Entity}
-use Rattle.model.specs.state.State.{Cell, Component, Slot, Status, World, fresh_slot, is_living, is_granted}
-use Rattle.model.specs.state.State.Status.{Vacant, Granted, Living, Retired}
-use Rattle.model.specs.state.Rows.{IsRising, row_at, cell_at, insert_component, remove_component}
-use Rattle.model.specs.state.Shape.{IsComponent, IsSlot, IsWorld}
-use Rattle.model.specs.state.Commands.{is_alive, with_row}
-use Rattle.model.proofs.lists.Lists.{map_index-id, map_index-same}
-use Rattle.model.proofs.lists.Each.{each-weaker, each-get_or}
+use Rattle.model.proofs.lists.Lists.{map_index-id}
+use Rattle.model.proofs.lists.Each.{each-get_or}
 use Rattle.model.proofs.shape.Rows.{each-insert, each-remove, rising-insert, rising-remove, component-new, component-changed}
-use Rattle.entity_table.specs.Ids.{slot_at}
 use Rattle.entity_table.proofs.Edits.{update_at-same, update_at-id}
-use Rattle.archetype_store.specs.declared.change.Fate.{Fate}
-use Rattle.archetype_store.specs.declared.change.EntityChange.{EntityChange}
-use Rattle.archetype_store.specs.Slot.{cell_of}
 use Rattle.archetype_store.proofs.RowEdits.{absent-removed}
-use Rattle.archetype_store.specs.Changes.{components_left, slot_left, change_at, changed, CanChange}
 
 -- two changes by index that differ by a change at one
 pub map_index-updated : {A : Type 0} (k : ℕ) (f : A → A) (g h : ℕ → A → A) (d : A) (xs : List A) →

@@ -1,18 +1,7 @@
 -- What the tables and places of archetypes are after the row of one entity was laid, moved or taken away.
-use Rattle.std.proofs.Common.{◌≡◌, ◌≢◌, ℕ, zero, suc, Bool, true, false, cond, ◌==◌, ◌&&◌, ◌⊎◌, inl, inr, List, [], ◌∷◌, get_or, map, Option, Some, None, is_some, refl, sym, ap, subst, ◌∙◌, arith}
-use Rattle.std.proofs.lemmas.Bool.{cases_eq, eq-eqb, ne_eqb, eqb-true}
-use Rattle.std.proofs.lemmas.Bool.Decides.{nat_tests}
+use Rattle.archetype_store.proofs.Common.{◌≡◌, ◌≢◌, ℕ, zero, suc, Bool, true, false, cond, ◌==◌, ◌&&◌, ◌⊎◌, inl, inr, List, [], ◌∷◌, get_or, map, Option, Some, None, is_some, refl, sym, ap, subst, ◌∙◌, arith, cases_eq, eq-eqb, ne_eqb, nat_tests, AllByRecursion, map_index, with_at, is_there, Component, Entity, is_same, TableValue, empty_table, EntityLocation, kinds_at, held_at, row_or_none, shape_of, AreShaped, AreUnlike, archetypes_of, row_of, holder_of, holder_if, place_of, is_place, row_in, holder_in, IsHolder, IsOfKinds, AreArchetypes, HasRow, eqb-true}
 use Rattle.std.proofs.Math.ListN.{get_or-map}
-use Rattle.std.specs.List.{AllByRecursion}
-use Rattle.model.specs.Lists.{map_index, with_at, is_there}
-use Rattle.model.specs.state.State.{Component}
-use Rattle.model.specs.declared.entities.Entity.{Entity}
-use Rattle.column_store.specs.Order.{is_same}
-use Rattle.column_store.specs.Table.{TableValue, empty_table}
 use Rattle.column_store.proofs.Apart.{same_entity}
-use Rattle.archetype_store.specs.declared.locations.EntityLocation.{EntityLocation}
-use Rattle.archetype_store.specs.Tables.{kinds_at, held_at, row_or_none, shape_of, AreShaped, AreUnlike}
-use Rattle.archetype_store.specs.Storage.{archetypes_of, row_of, holder_of, holder_if, place_of, is_place, row_in, holder_in, IsHolder, IsOfKinds, AreArchetypes, HasRow}
 use Rattle.archetype_store.proofs.TablesAfterRowChange.{shape_at, held_within}
 
 -- ---- maps by number

@@ -1,13 +1,5 @@
 -- Tables where rows can be changed: some may be made, and some have other room.
-use Rattle.std.proofs.Common.{◌≡◌, ℕ, List, map, Option, refl}
-use Rattle.std.specs.List.{AllByRecursion}
-use Rattle.model.proofs.lists.Each.{each-weaker}
-use Rattle.column_store.specs.Table.{TableValue}
-use Rattle.archetype_store.specs.declared.locations.EntityLocation.{EntityLocation}
-use Rattle.archetype_store.specs.declared.row_moves.RowMove.{RowMove}
-use Rattle.archetype_store.specs.Storage.{archetypes_of, place_of, AreAlike}
-use Rattle.archetype_store.specs.RowMoves.{IsPlanned}
-use Rattle.archetype_store.specs.Tables.{shape_of, AreAllAlike, IsGrown}
+use Rattle.archetype_store.proofs.Common.{◌≡◌, ℕ, List, map, Option, refl, AllByRecursion, each-weaker, TableValue, EntityLocation, RowMove, archetypes_of, place_of, AreAlike, IsPlanned, shape_of, AreAllAlike, IsGrown}
 use Rattle.archetype_store.proofs.TableGrowth.{planned_alike}
 use Rattle.archetype_store.proofs.SingleRowMove.{alike_trans}
 use Rattle.archetype_store.proofs.RowMoves.{planned_rest}

@@ -1,9 +1,5 @@
 -- A write of a resource.
-use Rattle.std.proofs.Common.{◌≡◌, ℕ, zero, suc, ℤ, List, [], ◌∷◌, set, map, Some, refl, ap}
-use Rattle.model.specs.Lists.{update_at}
-use Rattle.model.specs.shown.Overlay.{resource_after}
-use Rattle.archetype_store.specs.declared.resources.Resource.{Resource}
-use Rattle.archetype_store.specs.Resources.{resource_of}
+use Rattle.archetype_store.proofs.Common.{◌≡◌, ℕ, zero, suc, ℤ, List, [], ◌∷◌, set, map, Some, refl, ap, update_at, resource_after, Resource, resource_of}
 
 -- a write of a resource
 pub set-resource : (t : ℕ) (v : ℤ) (xs : List Resource) (i : ℕ) (r : Resource) → r.value ≡ v → r.changed ≡ t → map resource_of (set xs i r) ≡ update_at i (resource_after t (Some v)) (map resource_of xs)

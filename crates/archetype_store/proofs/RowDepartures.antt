@@ -1,15 +1,5 @@
 -- Rows that leave their tables, of several that move.
-use Rattle.std.proofs.Common.{◌≡◌, ℕ, zero, suc, ◌+◌, ◌<◌, Bool, true, false, cond, ◌==◌, List, [], ◌∷◌, length, get_or, map, Option, Some, None, refl, sym, ap, ap₂, subst, ◌∙◌, arith}
-use Rattle.std.specs.List.{AllByRecursion}
-use Rattle.model.specs.state.State.{Component}
-use Rattle.column_store.specs.Table.{TableValue}
-use Rattle.archetype_store.specs.declared.change.EntityChange.{EntityChange}
-use Rattle.archetype_store.specs.declared.locations.EntityLocation.{EntityLocation}
-use Rattle.archetype_store.specs.declared.row_moves.RowMove.{RowMove}
-use Rattle.archetype_store.specs.Storage.{StorageValue, row_of, holder_of, place_of, holder_in, row_changed, holder_changed, holder_if, IsHolder, HasRow, HaveRows}
-use Rattle.archetype_store.specs.Changes.{components_left, AreOfOtherIndices}
-use Rattle.archetype_store.specs.RowMoves.{change_of, other_table, arrives_in, stays_there, stays_in, is_table, one_if, coming_count, HaveRoom, IsPlanned, AreAlikeBut, AreAlikeBefore}
-use Rattle.archetype_store.specs.Tables.{room_at, shape_of}
+use Rattle.archetype_store.proofs.Common.{◌≡◌, ℕ, zero, suc, ◌+◌, ◌<◌, Bool, true, false, cond, ◌==◌, List, [], ◌∷◌, length, get_or, map, Option, Some, None, refl, sym, ap, ap₂, subst, ◌∙◌, arith, AllByRecursion, Component, TableValue, EntityChange, EntityLocation, RowMove, StorageValue, row_of, holder_of, place_of, holder_in, row_changed, holder_changed, holder_if, IsHolder, HasRow, HaveRows, components_left, AreOfOtherIndices, change_of, other_table, arrives_in, stays_there, stays_in, is_table, one_if, coming_count, HaveRoom, IsPlanned, AreAlikeBut, AreAlikeBefore, room_at, shape_of}
 use Rattle.archetype_store.proofs.PlacesAfterRowChange.{kinds_kept}
 use Rattle.archetype_store.proofs.RowMoves.{index_flipped, as_many_tables}
 

@@ -1,15 +1,6 @@
 -- Insertions, removals and writes of a kind that a row has or hasn't, and the kinds of rows.
-use Rattle.std.proofs.Common.{◌≡◌, ℕ, ◌<◌, Bool, true, false, cond, ◌==◌, ◌||◌, nat_lt, List, [], ◌∷◌, map, Option, Some, None, is_some, refl, ap, ◌∙◌, arith}
-use Rattle.std.proofs.lemmas.Bool.Decides.{nat_tests}
-use Rattle.std.specs.List.{AllByRecursion}
-use Rattle.model.specs.Lists.{has}
-use Rattle.model.specs.state.State.{Cell, Component}
-use Rattle.model.specs.state.Rows.{cell_at, IsRising, remove_component}
-use Rattle.column_store.specs.declared.stamped.StampedValue.{StampedValue}
-use Rattle.column_store.specs.Cells.{stamped_number}
-use Rattle.column_store.specs.Kinds.{AreBelow}
+use Rattle.archetype_store.proofs.Common.{◌≡◌, ℕ, ◌<◌, Bool, true, false, cond, ◌==◌, ◌||◌, List, [], ◌∷◌, map, Option, Some, None, is_some, refl, ap, ◌∙◌, AllByRecursion, has, Cell, Component, cell_at, IsRising, remove_component, StampedValue, stamped_number, AreBelow, component_of}
 use Rattle.column_store.proofs.TheirComponents.{not_same}
-use Rattle.archetype_store.specs.Row.{component_of}
 
 -- ---- a kind that isn't there
 
@@ -21,9 +12,6 @@ absent-removed k (c ∷ cs) h = go (c.kind == k) h (absent-removed k cs)
     go : (b : Bool) → cond b (Some c.cell) (cell_at cs k) ≡ None → (cell_at cs k ≡ None → remove_component k cs ≡ cs) → cond b cs (c ∷ remove_component k cs) ≡ c ∷ cs
     go true e more = absurd (cc)
     go false e more = ap (λ rest. c ∷ rest) (more e)
-
-lesser : (n k : ℕ) → nat_lt k n ≡ true → k < n
-lesser n k h = grind (arith, nat_tests)
 
 -- above a kind it isn't
 pub above_absent : (k : ℕ) (row : List Component) → AllByRecursion (λ c. k < c.kind) row → cell_at row k ≡ None

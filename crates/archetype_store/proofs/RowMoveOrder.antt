@@ -1,13 +1,6 @@
 -- One row after the other, of several that move.
-use Rattle.std.proofs.Common.{◌≡◌, ℕ, zero, suc, ◌+◌, ◌<◌, false, ◌==◌, List, [], ◌∷◌, ◌++◌, length, get_or, take, drop, map, Option, sym, ap, subst, ◌∙◌, arith}
-use Rattle.std.proofs.lemmas.List.{take_more, drop_more, get_or-map, length-map}
-use Rattle.std.specs.List.{AllByRecursion}
-use Rattle.column_store.specs.Table.{TableValue}
-use Rattle.archetype_store.specs.declared.change.EntityChange.{EntityChange}
-use Rattle.archetype_store.specs.declared.locations.EntityLocation.{EntityLocation}
-use Rattle.archetype_store.specs.declared.row_moves.RowMove.{RowMove}
-use Rattle.archetype_store.specs.Changes.{AreOfOtherIndices}
-use Rattle.archetype_store.specs.RowMoves.{change_of, HaveRoom, HasLeft, IsPlanned}
+use Rattle.archetype_store.proofs.Common.{◌≡◌, ℕ, zero, suc, ◌+◌, ◌<◌, false, ◌==◌, List, [], ◌∷◌, ◌++◌, length, get_or, take, drop, map, Option, sym, ap, subst, ◌∙◌, arith, take_more, drop_more, length-map, AllByRecursion, TableValue, EntityChange, EntityLocation, RowMove, AreOfOtherIndices, change_of, HaveRoom, HasLeft, IsPlanned}
+use Rattle.std.proofs.lemmas.List.{get_or-map}
 use Rattle.archetype_store.proofs.BookChanges.{before-other}
 use Rattle.archetype_store.proofs.RowMoves.{map_drop}
 

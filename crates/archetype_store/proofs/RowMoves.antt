@@ -1,21 +1,6 @@
 -- Rows of several entities that change at once.
-use Rattle.std.proofs.Common.{◌≡◌, ℕ, zero, suc, ◌+◌, ◌<◌, ◌≤◌, ◌⊎◌, inl, inr, Bool, true, false, cond, ◌==◌, List, [], ◌∷◌, ◌++◌, length, set, drop, map, Option, Some, None, refl, sym, ap, ap₂, subst, ◌∙◌, arith}
-use Rattle.std.proofs.lemmas.Bool.{eq-eqb, ne_eqb, eqb-true, cases_eq}
-use Rattle.std.proofs.lemmas.Bool.Decides.{nat_tests}
-use Rattle.std.proofs.lemmas.List.{length-map, get_or-set_same, get_or-set_other}
-use Rattle.std.proofs.Math.Seq.{map-set_same}
-use Rattle.std.specs.List.{AllByRecursion}
-use Rattle.model.specs.state.State.{Component}
-use Rattle.column_store.specs.Table.{TableValue, empty_table}
-use Rattle.archetype_store.specs.declared.change.EntityChange.{EntityChange}
-use Rattle.archetype_store.specs.declared.locations.EntityLocation.{EntityLocation}
-use Rattle.archetype_store.specs.declared.row_moves.RowMove.{RowMove}
-use Rattle.archetype_store.specs.Storage.{StorageValue, row_of, holder_of, holder_if, place_of, holder_in, IsHolder, HasRow, HaveRows, row_changed, holder_changed}
-use Rattle.archetype_store.specs.Changes.{components_left}
-use Rattle.archetype_store.specs.RowMoves.{change_of, other_table, arrives_in, stays_there, is_table, one_if, coming_count, HaveRoom, HasLeft, IsPlanned}
-use Rattle.archetype_store.specs.Tables.{table_at, room_at, with_room, shape_of, is_in}
+use Rattle.archetype_store.proofs.Common.{◌≡◌, ℕ, zero, suc, ◌+◌, ◌<◌, ◌≤◌, ◌⊎◌, inl, inr, Bool, true, false, cond, ◌==◌, List, [], ◌∷◌, ◌++◌, length, set, drop, map, Option, Some, None, refl, sym, ap, ap₂, subst, ◌∙◌, arith, eq-eqb, ne_eqb, cases_eq, nat_tests, length-map, get_or-set_same, get_or-set_other, map-set_same, AllByRecursion, Component, TableValue, empty_table, EntityChange, EntityLocation, RowMove, StorageValue, row_of, holder_of, holder_if, place_of, holder_in, IsHolder, HasRow, HaveRows, row_changed, holder_changed, components_left, change_of, other_table, arrives_in, stays_there, is_table, one_if, coming_count, HaveRoom, HasLeft, IsPlanned, table_at, room_at, with_room, shape_of, is_in, apart_number, eqb-true}
 use Rattle.archetype_store.proofs.PlacesAfterRowChange.{kinds_kept}
-use Rattle.model.proofs.lists.Bools.{apart_number}
 
 pub index_flipped : (i j : ℕ) → (i == j) ≡ false → (j == i) ≡ false
 index_flipped i j h = grind (arith, nat_tests)

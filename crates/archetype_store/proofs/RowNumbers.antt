@@ -1,26 +1,11 @@
 -- The numbers of rows, as rows come, go and stay.
-use Rattle.std.proofs.Common.{◌≡◌, ℕ, zero, suc, ◌+◌, ◌-◌, ◌<◌, Bool, true, false, cond, ◌==◌, ◌⊎◌, inl, inr, List, [], ◌∷◌, ◌++◌, length, set, map, option_map, Option, Some, None, is_some, refl, sym, ap, ap₂, subst, ◌∙◌, arith}
-use Rattle.std.specs.Prelude.{slice_get}
-use Rattle.std.specs.List.{AllByRecursion}
-use Rattle.std.proofs.lemmas.Bool.{cases_eq, eqb-true, and_parts}
-use Rattle.std.proofs.lemmas.List.{get_or-set_same, get_or-set_other, length-set}
-use Rattle.model.specs.declared.entities.Entity.{Entity}
-use Rattle.model.specs.Lists.{is_there}
-use Rattle.column_store.specs.Order.{is_same, AreApart}
-use Rattle.column_store.specs.Places.{IsNowhere}
-use Rattle.column_store.specs.Components.{components_of}
-use Rattle.column_store.specs.Swapped.{swap_removed}
-use Rattle.column_store.specs.Table.{TableRow, TableValue, row_of}
+use Rattle.archetype_store.proofs.Common.{◌≡◌, ℕ, zero, suc, ◌+◌, ◌-◌, ◌<◌, Bool, true, false, cond, ◌==◌, ◌⊎◌, inl, inr, List, [], ◌∷◌, ◌++◌, length, set, map, option_map, Option, Some, None, is_some, refl, sym, ap, ap₂, subst, ◌∙◌, arith, slice_get, AllByRecursion, cases_eq, and_parts, get_or-set_same, get_or-set_other, length-set, Entity, is_there, is_same, AreApart, IsNowhere, components_of, swap_removed, TableRow, TableValue, EntityLocation, archetype_of, layout_of, place_of, is_place, AreArchetypes, number_of_row, AreRowsKnown, table_at, held_at, entities_at, entity_in_row, IsOneTable, eqb-true}
+use Rattle.column_store.specs.Table.{row_of}
 use Rattle.column_store.proofs.Apart.{get_within}
 use Rattle.column_store.proofs.Edited.{head_none}
 use Rattle.column_store.proofs.Kept.{apart-push, apart-swap}
 use Rattle.column_store.proofs.Lists.{get-map}
 use Rattle.column_store.proofs.Swapped.{get-swap_here, get-swap_other}
-use Rattle.archetype_store.specs.declared.locations.EntityLocation.{EntityLocation}
-use Rattle.archetype_store.specs.Layout.{archetype_of, layout_of}
-use Rattle.archetype_store.specs.Storage.{place_of, is_place, AreArchetypes}
-use Rattle.archetype_store.specs.RowNumbers.{number_of_row, AreRowsKnown}
-use Rattle.archetype_store.specs.Tables.{table_at, held_at, entities_at, entity_in_row, IsOneTable}
 use Rattle.archetype_store.proofs.TablesAfterRowChange.{row_at}
 
 -- ---- places

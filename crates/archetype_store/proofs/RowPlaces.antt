@@ -1,15 +1,5 @@
 -- Insertions in a row, at the place that a search found.
-use Rattle.std.proofs.Common.{◌≡◌, ℕ, zero, suc, ◌<◌, true, false, cond, ◌==◌, nat_lt, nat_le, List, [], ◌∷◌, length, get_or, set, map, Some, sym, ap, ◌∙◌, arith}
-use Rattle.std.specs.List.{position, insert}
-use Rattle.std.proofs.lemmas.Bool.{eq-eqb}
-use Rattle.std.proofs.lemmas.Bool.Decides.{nat_tests}
-use Rattle.std.proofs.lemmas.List.Quantifiers.{position-Some}
-use Rattle.kinds.specs.declared.value.Value.{Value}
-use Rattle.kinds.specs.Value.{value_number, value_words}
-use Rattle.model.specs.state.State.{Component}
-use Rattle.model.specs.state.Rows.{changed_component, insert_component}
-use Rattle.column_store.specs.declared.stamped.StampedValue.{StampedValue}
-use Rattle.archetype_store.specs.Row.{component_of, added_at}
+use Rattle.archetype_store.proofs.Common.{◌≡◌, ℕ, zero, suc, ◌<◌, true, false, cond, ◌==◌, nat_lt, nat_le, List, [], ◌∷◌, length, get_or, set, map, Some, sym, ap, ◌∙◌, arith, position, insert, eq-eqb, nat_tests, position-Some, Value, value_number, value_words, Component, changed_component, insert_component, StampedValue, component_of, added_at}
 use Rattle.archetype_store.proofs.Rows.{is_from}
 
 -- the component with another value at a tick

@@ -1,15 +1,5 @@
 -- What the steps of one row come to: insertions, removals and writes of a kind.
-use Rattle.std.proofs.Common.{◌≡◌, ◌≢◌, ℕ, ◌<◌, true, false, List, [], ◌∷◌, length, set, map, Option, Some, None, option_map, is_some, refl, sym, ap, subst, ◌∙◌}
-use Rattle.model.specs.Lists.{is_there}
-use Rattle.model.specs.state.State.{Component}
-use Rattle.model.specs.declared.entities.Entity.{Entity}
-use Rattle.column_store.specs.declared.stamped.StampedValue.{StampedValue}
-use Rattle.column_store.specs.Cells.{stamped_number}
-use Rattle.column_store.specs.Table.{TableValue}
-use Rattle.archetype_store.specs.declared.locations.EntityLocation.{EntityLocation}
-use Rattle.archetype_store.specs.Row.{component_of}
-use Rattle.archetype_store.specs.Tables.{kinds_at, held_at, row_or_none, IsHeldNow}
-use Rattle.archetype_store.specs.Storage.{archetypes_of, place_of, row_in, holder_in, IsHolder, AreArchetypes, HasRow}
+use Rattle.archetype_store.proofs.Common.{◌≡◌, ◌≢◌, ℕ, ◌<◌, true, List, [], ◌∷◌, length, set, map, Option, Some, None, is_some, refl, sym, ap, subst, ◌∙◌, is_there, Component, Entity, StampedValue, stamped_number, TableValue, EntityLocation, component_of, kinds_at, held_at, row_or_none, IsHeldNow, archetypes_of, place_of, row_in, holder_in, IsHolder, AreArchetypes, HasRow}
 use Rattle.archetype_store.proofs.PlacesAfterRowChange.{moved_whole, moved_row, somewhere, kinds_there}
 use Rattle.archetype_store.proofs.SingleRowMove.{moved_joined, moved_cleared, moved_written, row_placed}
 use Rattle.archetype_store.proofs.RowNumbers.{placed_within}
@@ -75,8 +65,3 @@ kinds_at_place T P h i p at =
     let e : Entity = record { index = i; generation = p.generation } in
     let fits : IsHolder e.generation (holder_in (place_of P e.index)) = subst (λ o. IsHolder p.generation (holder_in o)) (sym at) refl in
     ap (map (λ (c : Component). c.kind)) (row_is T P e p h fits at) ∙ kinds_held T P e p h fits at
-
--- one that isn't
-pub none_seen : {A B : Type 0} (f : A → B) (o : Option A) (x : Option B) → option_map f o ≡ x → is_some o ≡ false → x ≡ None
-none_seen f None x h s = sym h
-none_seen f (Some a) x h s = absurd (cc)

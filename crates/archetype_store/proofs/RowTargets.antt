@@ -1,14 +1,5 @@
 -- Where a row goes that is moved.
-use Rattle.std.proofs.Common.{◌≡◌, ◌≢◌, ℕ, ◌+◌, ◌≤◌, Bool, true, false, cond, ◌==◌, List, [], ◌∷◌, Option, Some, None, refl, sym, ap, ◌∙◌, arith}
-use Rattle.std.proofs.lemmas.Bool.{eqb-true}
-use Rattle.model.specs.Lists.{is_there, with_at}
-use Rattle.column_store.specs.declared.stamped.StampedValue.{StampedValue}
-use Rattle.column_store.specs.Table.{TableValue}
-use Rattle.archetype_store.specs.declared.locations.EntityLocation.{EntityLocation}
-use Rattle.archetype_store.specs.declared.row_moves.RowMove.{RowMove}
-use Rattle.archetype_store.specs.Storage.{place_of}
-use Rattle.archetype_store.specs.RowMoves.{other_table, arrives_in, stays_there, stays_in, is_table, one_if}
-use Rattle.archetype_store.specs.Tables.{room_at, is_in}
+use Rattle.archetype_store.proofs.Common.{◌≡◌, ◌≢◌, ℕ, ◌+◌, ◌≤◌, Bool, true, false, cond, ◌==◌, List, [], ◌∷◌, Option, Some, None, refl, sym, ap, ◌∙◌, arith, is_there, with_at, StampedValue, TableValue, EntityLocation, RowMove, place_of, other_table, arrives_in, stays_there, stays_in, is_table, one_if, room_at, is_in, eqb-true}
 use Rattle.archetype_store.proofs.PlacesAfterRowChange.{with_at_apart}
 
 here_from : (o : Option EntityLocation) (to : ℕ) → other_table o (Some to) ≡ None → (p : EntityLocation) × (o ≡ Some p) × (p.table ≡ to)

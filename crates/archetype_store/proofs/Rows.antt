@@ -1,15 +1,6 @@
 -- Rows as lists of stamped components.
-use Rattle.std.proofs.Common.{◌≡◌, ℕ, zero, suc, ◌+◌, ◌<◌, ◌≤◌, Bool, true, false, not, cond, ◌==◌, nat_lt, nat_le, ℤ, List, [], ◌∷◌, ◌++◌, length, map, sym, ◌∙◌, Option, Some, None, refl, ap, arith}
-use Rattle.std.specs.List.{position, position_or_len, remove}
-use Rattle.std.proofs.lemmas.List.{map-append}
-use Rattle.std.proofs.lemmas.Bool.Decides.{nat_tests}
-use Rattle.kinds.specs.declared.value.Value.{Value}
-use Rattle.kinds.specs.Value.{value_number, value_words}
-use Rattle.model.specs.state.State.{Cell, Component}
-use Rattle.model.specs.state.Rows.{cell_at, new_component, insert_component, remove_component}
-use Rattle.column_store.specs.declared.stamped.StampedValue.{StampedValue}
+use Rattle.archetype_store.proofs.Common.{◌≡◌, ℕ, zero, suc, ◌+◌, ◌<◌, ◌≤◌, Bool, true, false, not, cond, ◌==◌, nat_lt, nat_le, ℤ, List, [], ◌∷◌, ◌++◌, length, map, sym, ◌∙◌, Option, Some, None, refl, ap, arith, position, position_or_len, remove, map-append, nat_tests, Value, value_number, value_words, Cell, Component, cell_at, new_component, insert_component, remove_component, StampedValue, component_of, added_at}
 use Rattle.column_store.proofs.Rows.{some_place}
-use Rattle.archetype_store.specs.Row.{component_of, added_at}
 
 le_step : (b : Bool) (p l : ℕ) → p ≤ l → cond (not b) (1 + p) 0 ≤ suc l
 le_step true p l h = omega arith

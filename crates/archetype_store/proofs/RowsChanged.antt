@@ -1,27 +1,9 @@
 -- What rows are after one of them came, went or was replaced.
-use Rattle.std.proofs.Common.{◌≡◌, ℕ, zero, suc, ◌+◌, ◌-◌, ◌<◌, ◌≤◌, Bool, true, false, cond, ◌==◌, ◌⊎◌, inl, inr, List, [], ◌∷◌, ◌++◌, length, set, map, option_map, Option, Some, None, is_some, Result, Ok, Err, OnOk, OnErr, refl, sym, ap, subst, ◌∙◌, arith}
-use Rattle.std.specs.Prelude.{slice_get}
-use Rattle.std.proofs.lemmas.Bool.{cases_eq, eq-eqb}
-use Rattle.std.proofs.lemmas.List.{length-map}
-use Rattle.std.proofs.Math.Seq.{map-set_same}
-use Rattle.model.specs.Lists.{is_there}
-use Rattle.model.specs.declared.entities.Entity.{Entity}
-use Rattle.column_store.specs.declared.stamped.StampedValue.{StampedValue}
-use Rattle.column_store.specs.Column.{ColumnCells}
-use Rattle.column_store.specs.Components.{components_of}
-use Rattle.column_store.specs.Order.{is_same, AreApart}
-use Rattle.column_store.specs.Places.{IsPlace}
-use Rattle.column_store.specs.Swapped.{swap_removed}
-use Rattle.column_store.specs.Table.{TableRow, TableValue, row_of, empty_table, is_home, homed, lent}
+use Rattle.archetype_store.proofs.Common.{◌≡◌, ℕ, zero, suc, ◌+◌, ◌-◌, ◌<◌, ◌≤◌, Bool, true, false, cond, ◌==◌, ◌⊎◌, inl, inr, List, [], ◌∷◌, ◌++◌, length, set, map, option_map, Option, Some, None, is_some, Result, Ok, Err, OnOk, OnErr, refl, sym, ap, subst, ◌∙◌, arith, slice_get, cases_eq, eq-eqb, length-map, map-set_same, is_there, Entity, StampedValue, ColumnCells, components_of, is_same, AreApart, IsPlace, swap_removed, TableRow, TableValue, empty_table, is_home, homed, lent, EntityLocation, component_of, one_if, number_of_row, AreRowsKnown, RowsValue, rows_seen, row_number, without_row, with_row_renewed, placed_in, joined, left_from, renewed, AreKept, AreRows, CanJoin, CanRenew, IsTheirs, place_of, holder_in, AreArchetypes, HasRow, IsHolder, table_at, number_of, held_at, entities_at, entity_in_row, room_at, shape_of, AreOwned, AreUnshared, AreAllAlike, IsGrown, IsHeldNow, IsOneTable, IsTableOf}
+use Rattle.column_store.specs.Table.{row_of}
 use Rattle.column_store.proofs.Apart.{same_entity, get_within}
 use Rattle.column_store.proofs.Kept.{apart-push, apart-swap}
-use Rattle.archetype_store.specs.declared.locations.EntityLocation.{EntityLocation}
-use Rattle.archetype_store.specs.Row.{component_of}
-use Rattle.archetype_store.specs.RowMoves.{one_if}
-use Rattle.archetype_store.specs.RowNumbers.{number_of_row, AreRowsKnown}
-use Rattle.archetype_store.specs.Rows.{RowsValue, rows_seen, row_number, with_row, without_row, with_row_renewed, placed_in, joined, left_from, renewed, AreKept, AreRows, CanJoin, CanRenew, IsTheirs}
-use Rattle.archetype_store.specs.Storage.{place_of, holder_in, AreArchetypes, HasRow, IsHolder}
-use Rattle.archetype_store.specs.Tables.{table_at, number_of, held_at, entities_at, entity_in_row, room_at, shape_of, AreOwned, AreUnshared, AreAllAlike, IsGrown, IsHeldNow, IsOneTable, IsTableOf}
+use Rattle.archetype_store.specs.Rows.{with_row}
 use Rattle.archetype_store.proofs.ArchetypeColumns.{entities_filled, lent_stored, stored_homed}
 use Rattle.archetype_store.proofs.ColumnStandings.{owned_kept, owned_stored, alike_set, alike_stored, alike_whole}
 use Rattle.archetype_store.proofs.PlacesAfterRowChange.{nowhere, somewhere}
@@ -247,7 +229,7 @@ roomed_if (Err e) old new room ok err = (ap shape_of err, ap (λ (t : TableValue
 -- one whose columns stand otherwise
 pub alike_kept : (T U : List TableValue) (P : List (Option EntityLocation)) (N : List ℕ) (s s' : Bool) → AreAllAlike T U → (s' ≡ false → AreUnshared U) → AreKept T P N s → AreKept U P N s'
 alike_kept T U P N s s' alike unshared kept = record {
-  stored = alike_stored T U P s s' alike kept.stored.whole kept.stored.bare unshared;
+  stored = alike_stored T U P s s' alike kept.stored.whole kept.stored.empty unshared;
   known = known_kept T U P N (alike_entities T U alike) kept.known;
 }
 

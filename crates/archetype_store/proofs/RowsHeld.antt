@@ -1,10 +1,5 @@
 -- Rows by index: who has a place has a row.
-use Rattle.std.proofs.Common.{◌≡◌, ℕ, Option, Some, None, is_some, refl, sym, ap, ◌∙◌}
-use Rattle.model.specs.Lists.{is_there}
-use Rattle.model.specs.declared.entities.Entity.{Entity}
-use Rattle.archetype_store.specs.declared.locations.EntityLocation.{EntityLocation}
-use Rattle.archetype_store.specs.Rows.{RowsValue, rows_seen, AreRows}
-use Rattle.archetype_store.specs.Storage.{row_of, place_of, row_in}
+use Rattle.archetype_store.proofs.Common.{◌≡◌, ℕ, Option, Some, None, is_some, refl, sym, ap, ◌∙◌, is_there, Entity, EntityLocation, RowsValue, rows_seen, AreRows, row_of, place_of, row_in}
 use Rattle.archetype_store.proofs.PlacesAfterRowChange.{row_seen, somewhere, row_there}
 use Rattle.archetype_store.proofs.RowSteps.{kinds_at_place}
 

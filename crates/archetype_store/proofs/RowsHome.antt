@@ -1,15 +1,6 @@
 -- Whose columns are at home.
-use Rattle.std.proofs.Common.{◌≡◌, ℕ, zero, suc, Bool, true, false, cond, ◌==◌, List, [], ◌∷◌, Option, Some, None, option_map, refl, sym, ap, ◌∙◌}
-use Rattle.std.specs.Prelude.{◌≢◌, slice_get}
-use Rattle.std.specs.List.{list_all}
-use Rattle.std.proofs.lemmas.Bool.{false≢true, or_left, or_right, and_parts as both}
-use Rattle.model.specs.declared.entities.Entity.{Entity}
-use Rattle.model.proofs.lists.Lists.{==-same}
-use Rattle.column_store.specs.Kinds.{at_kind}
-use Rattle.column_store.specs.Table.{Standing, TableValue, is_home, is_not_away, standing_of}
-use Rattle.column_store.specs.Table.Standing.{Owned, Shared, Away}
-use Rattle.archetype_store.specs.Layout.{Archetype, archetype_at, has_index, layout_of, AreAllHome, IsCellHome, IsRowHome}
-use Rattle.archetype_store.specs.Tables.{table_at, number_of, entity_in_row, IsTableOf}
+use Rattle.archetype_store.proofs.Common.{◌≡◌, ℕ, zero, suc, Bool, true, false, cond, ◌==◌, List, [], ◌∷◌, Option, Some, None, option_map, refl, sym, ap, ◌∙◌, slice_get, list_all, false≢true, or_left, Entity, ==-same, at_kind, Standing, TableValue, is_home, is_not_away, standing_of, Owned, Shared, Away, Archetype, archetype_at, has_index, layout_of, AreAllHome, IsCellHome, IsRowHome, table_at, number_of, entity_in_row, IsTableOf}
+use Rattle.std.proofs.lemmas.Bool.{or_right, and_parts as both}
 use Rattle.archetype_store.proofs.ArchetypeColumns.{numbered, standing_seen}
 use Rattle.archetype_store.proofs.RowsOfArchetypes.{peopled, peopled_within, stands_there}
 use Rattle.archetype_store.proofs.ColumnStandings.{homes_seen}

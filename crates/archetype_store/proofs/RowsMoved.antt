@@ -1,14 +1,5 @@
 -- What rows are after a step of one that moves: it has gone from where it was, or has come where it goes.
-use Rattle.std.proofs.Common.{◌≡◌, ℕ, ◌+◌, ◌<◌, ◌≤◌, Bool, true, false, cond, length, map, Option, Some, None, refl, sym, ap, ap₂, subst, ◌∙◌, true≢false}
-use Rattle.std.proofs.lemmas.List.{length-set}
-use Rattle.archetype_store.specs.declared.locations.EntityLocation.{EntityLocation}
-use Rattle.archetype_store.specs.declared.row_moves.RowMove.{RowMove}
-use Rattle.archetype_store.specs.Changes.{components_left}
-use Rattle.archetype_store.specs.Row.{component_of}
-use Rattle.archetype_store.specs.RowMoves.{components_moved, arrives_in, stays_there, stays_in, is_table, one_if, gone, come_to, come, HasLeft, IsPlanned, AreAlikeBut}
-use Rattle.archetype_store.specs.Rows.{RowsValue, rows_seen, placed_in, left_from, left, AreRows, CanJoin, CanRenew}
-use Rattle.archetype_store.specs.Storage.{place_of, row_in, holder_in, IsHolder, HasRow}
-use Rattle.archetype_store.specs.Tables.{room_at, shape_of}
+use Rattle.archetype_store.proofs.Common.{◌≡◌, ℕ, ◌+◌, ◌<◌, ◌≤◌, Bool, true, false, cond, length, map, Option, Some, None, refl, sym, ap, ap₂, subst, ◌∙◌, true≢false, length-set, EntityLocation, RowMove, components_left, component_of, components_moved, arrives_in, stays_there, stays_in, is_table, one_if, gone, come_to, come, HasLeft, IsPlanned, AreAlikeBut, RowsValue, rows_seen, placed_in, left_from, left, AreRows, CanJoin, CanRenew, place_of, row_in, holder_in, IsHolder, HasRow, room_at, shape_of}
 use Rattle.archetype_store.proofs.PlacesAfterRowChange.{with_at_same}
 use Rattle.archetype_store.proofs.RowDepartures.{arrives_cleared, planned_cleared, cleared_but}
 use Rattle.archetype_store.proofs.RowNumbers.{placed_within}

@@ -1,12 +1,5 @@
 -- The rows of tables stand in the archetypes of the tables.
-use Rattle.std.proofs.Common.{◌≡◌, ℕ, zero, suc, ◌<◌, true, List, [], ◌∷◌, length, get_or, map, Some, None, refl, ap, ◌∙◌, arith}
-use Rattle.std.specs.Prelude.{slice_get}
-use Rattle.model.specs.Lists.{is_there}
-use Rattle.model.specs.declared.entities.Entity.{Entity}
-use Rattle.column_store.specs.Table.{TableRow, TableValue}
-use Rattle.archetype_store.specs.Layout.{layout_of, archetype_at}
-use Rattle.archetype_store.specs.Shapes.{numbers_from}
-use Rattle.archetype_store.specs.Tables.{table_at, number_of, entity_in_row}
+use Rattle.archetype_store.proofs.Common.{◌≡◌, ℕ, zero, suc, ◌<◌, true, List, [], ◌∷◌, length, get_or, map, Some, None, refl, ap, ◌∙◌, arith, slice_get, is_there, Entity, TableRow, TableValue, layout_of, archetype_at, numbers_from, table_at, number_of, entity_in_row}
 use Rattle.archetype_store.proofs.ArchetypeColumns.{entities_there}
 use Rattle.archetype_store.proofs.FittingTables.{number_at}
 

@@ -1,14 +1,5 @@
 -- The moves of one row: laid in another table, written where it is, taken away.
-use Rattle.std.proofs.Common.{◌≡◌, ℕ, ◌<◌, Bool, true, false, cond, ◌==◌, ◌⊎◌, inl, inr, List, [], length, set, map, Option, Some, None, is_some, refl, sym, ap, subst, ◌∙◌}
-use Rattle.std.proofs.lemmas.Bool.{cases_eq}
-use Rattle.std.proofs.lemmas.List.{get_or-set_same, get_or-set_other}
-use Rattle.model.specs.Lists.{with_at, is_there}
-use Rattle.model.specs.state.State.{Component}
-use Rattle.model.specs.declared.entities.Entity.{Entity}
-use Rattle.column_store.specs.Table.{TableValue}
-use Rattle.archetype_store.specs.declared.locations.EntityLocation.{EntityLocation}
-use Rattle.archetype_store.specs.Tables.{kinds_at, held_at, row_or_none, IsHeldNow, IsGrown}
-use Rattle.archetype_store.specs.Storage.{StorageValue, archetypes_of, row_of, holder_of, holder_if, place_of, row_in, holder_in, IsHolder, IsOfKinds, AreAlike, AreArchetypes, HasRow}
+use Rattle.archetype_store.proofs.Common.{◌≡◌, ℕ, ◌<◌, Bool, true, false, cond, ◌==◌, ◌⊎◌, inl, inr, List, [], length, set, map, Option, Some, None, is_some, refl, sym, ap, subst, ◌∙◌, cases_eq, get_or-set_same, get_or-set_other, with_at, is_there, Component, Entity, TableValue, EntityLocation, kinds_at, held_at, row_or_none, IsHeldNow, IsGrown, StorageValue, archetypes_of, row_of, holder_of, holder_if, place_of, row_in, holder_in, IsHolder, IsOfKinds, AreAlike, AreArchetypes, HasRow}
 use Rattle.archetype_store.proofs.TablesAfterRowChange.{held_within}
 use Rattle.archetype_store.proofs.PlacesAfterRowChange.{with_at_same, with_at_apart, row_seen, holder_seen, IsMoved, nowhere, not_elsewhere, somewhere, kinds_there, row_there}
 

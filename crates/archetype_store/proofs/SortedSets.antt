@@ -1,17 +1,9 @@
 -- Numbers of sets that are added one by one make the same list in whatever order they come.
-use Rattle.std.proofs.Common.{ℕ, zero, suc, ◌+◌, ◌<◌, ◌≡◌, ◌⊎◌, Bool, true, false, List, [], ◌∷◌, ◌++◌, length, get_or, take, map, refl, sym, ap, ◌∙◌, subst, inl, inr, arith}
-use Rattle.std.specs.List.{Contains, AllByRecursion}
-use Rattle.std.specs.List.Sorted.{IsPermutation}
-use Rattle.std.proofs.lemmas.List.{take_more}
+use Rattle.archetype_store.proofs.Common.{ℕ, zero, suc, ◌+◌, ◌<◌, ◌≡◌, ◌⊎◌, Bool, true, false, List, [], ◌∷◌, ◌++◌, length, get_or, take, map, refl, sym, ap, ◌∙◌, subst, inl, inr, arith, Contains, AllByRecursion, IsPermutation, take_more, IsIn, with_number, numbers_with, first_numbers, number_seen, kinds_seen, ArchetypeView}
 use Rattle.std.proofs.lemmas.List.Sorted.{IsPermutation-sym, Contains-permutation}
-use Rattle.model.specs.Lists.{IsIn}
 use Rattle.model.specs.declarations.Hierarchy.{IsRising}
-use Rattle.model.specs.state.KindSets.{with_number}
 use Rattle.model.proofs.serial.There.{number_here, number_stays}
 use Rattle.model.proofs.serial.KindLists.{number-cases, rising-same, with_number-rises}
-use Rattle.archetype_store.specs.LivingSets.{numbers_with, first_numbers, number_seen}
-use Rattle.archetype_store.specs.View.{kinds_seen}
-use Rattle.archetype_store.specs.declared.tables.ArchetypeView.{ArchetypeView}
 
 -- rising numbers with more of them, one by one
 abbrev pub numbers_added : List ℕ → List ℕ → List ℕ

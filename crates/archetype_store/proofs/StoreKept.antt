@@ -1,19 +1,6 @@
 -- What keeps the inside of a store: rows that are alike, and slots that a call of the id book changed.
-use Rattle.std.proofs.Common.{◌≡◌, true, ℕ, ◌<◌, ◌≤◌, List, set, Result, Ok, Err, OnOk, OnErr, sym, ap, subst, ◌∙◌, arith}
-use Rattle.kinds.specs.Components.{widths}
-use Rattle.model.specs.declared.entities.Entity.{Entity}
-use Rattle.model.specs.state.Commands.{is_alive}
-use Rattle.model.specs.state.State.{Slot, Resource, World}
-use Rattle.model.specs.state.Shape.{IsWorld}
-use Rattle.entity_table.specs.Rows.{with_rows}
-use Rattle.column_store.specs.Table.{lent}
-use Rattle.archetype_store.specs.declared.table_index.TableIndex.{TableIndex}
-use Rattle.archetype_store.specs.Inside.{HasRows, slots_seen, store_seen, IsStore}
-use Rattle.archetype_store.specs.Rows.{RowsValue, rows_seen}
-use Rattle.archetype_store.specs.Storage.{StorageValue, row_of, holder_of}
-use Rattle.archetype_store.specs.Store.{StoreValue, with_slots}
-use Rattle.archetype_store.specs.TableIndex.{IsIndexed}
-use Rattle.archetype_store.specs.Tables.{table_at, IsTableOf}
+use Rattle.archetype_store.proofs.Common.{◌≡◌, true, ℕ, ◌<◌, ◌≤◌, List, set, Result, Ok, Err, OnOk, OnErr, sym, ap, subst, ◌∙◌, arith, widths, Entity, is_alive, Slot, World, IsWorld, with_rows, lent, TableIndex, HasRows, slots_seen, store_seen, IsStore, RowsValue, rows_seen, StorageValue, row_of, holder_of, StoreValue, with_slots, IsIndexed, table_at, IsTableOf}
+use Rattle.model.specs.state.State.{Resource}
 use Rattle.archetype_store.proofs.ArchetypeColumns.{value_lent}
 use Rattle.archetype_store.proofs.SlotRows.{rows-kept}
 
@@ -21,7 +8,7 @@ use Rattle.archetype_store.proofs.SlotRows.{rows-kept}
 
 module _ (book : List Slot) (a b : StorageValue) (rows : (i : ℕ) → row_of b.rows i ≡ row_of a.rows i) where
   pub alike_held : ((i : ℕ) → holder_of b.holders i ≡ holder_of a.holders i) → HasRows book a → HasRows book b
-  alike_held holders held = record { live = λ i g h. held.live i g (sym (holders i) ∙ h); bare = λ i h. rows i ∙ held.bare i (sym (holders i) ∙ h) }
+  alike_held holders held = record { live = λ i g h. held.live i g (sym (holders i) ∙ h); empty = λ i h. rows i ∙ held.empty i (sym (holders i) ∙ h) }
 
   pub alike_slots : with_rows (row_of b.rows) book ≡ with_rows (row_of a.rows) book
   alike_slots = λ i. with_rows (λ k. rows k i) book

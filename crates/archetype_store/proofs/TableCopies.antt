@@ -1,13 +1,6 @@
 -- Copies of tables whose columns are at home: they hold the same, and their columns are theirs alone.
-use Rattle.std.proofs.Common.{◌≡◌, ℕ, Bool, true, false, List, [], ◌∷◌, map, Option, refl, sym, ap, ap₂, subst}
-use Rattle.std.proofs.lemmas.Bool.{and_parts}
-use Rattle.std.specs.List.{list_all}
-use Rattle.column_store.specs.Table.{Standing, TableValue, is_home, owned, IsAlike}
-use Rattle.column_store.specs.Table.Standing.{Owned}
-use Rattle.archetype_store.specs.declared.locations.EntityLocation.{EntityLocation}
-use Rattle.archetype_store.specs.Tables.{AreHome, AreOwned, AreAllAlike}
+use Rattle.archetype_store.proofs.Common.{◌≡◌, ℕ, Bool, true, false, List, [], ◌∷◌, map, Option, refl, sym, ap₂, subst, and_parts, list_all, Standing, TableValue, is_home, owned, IsAlike, Owned, EntityLocation, AreHome, AreOwned, AreAllAlike, AreKept}
 use Rattle.archetype_store.proofs.ColumnStandings.{owned_all, alike_whole, owned_stored}
-use Rattle.archetype_store.specs.Rows.{AreKept}
 use Rattle.archetype_store.proofs.RowNumbers.{known_kept}
 use Rattle.archetype_store.proofs.TableRoom.{alike_entities}
 

@@ -1,9 +1,5 @@
 -- Tables where a row can be laid: one may be made, and one has other room.
-use Rattle.std.proofs.Common.{ℕ, List, Option}
-use Rattle.column_store.specs.Table.{TableValue}
-use Rattle.archetype_store.specs.declared.locations.EntityLocation.{EntityLocation}
-use Rattle.archetype_store.specs.RowNumbers.{AreRowsKnown}
-use Rattle.archetype_store.specs.Tables.{IsGrown}
+use Rattle.archetype_store.proofs.Common.{ℕ, List, Option, TableValue, EntityLocation, AreRowsKnown, IsGrown}
 use Rattle.archetype_store.proofs.RowNumbers.{known_kept}
 
 -- nothing else than one more table

@@ -1,28 +1,11 @@
 -- Tables that grow, and rows from alike ones.
-use Rattle.std.proofs.Common.{◌≡◌, ℕ, ◌<◌, ◌≤◌, List, [], ◌∷◌, ◌++◌, length, Option, Result, Ok, Err, IfOk, OnOk, refl, sym, ap, subst, ◌∙◌, arith}
+use Rattle.archetype_store.proofs.Common.{◌≡◌, ℕ, ◌<◌, ◌≤◌, List, [], ◌∷◌, ◌++◌, length, Option, Result, Ok, Err, IfOk, OnOk, sym, ap, subst, ◌∙◌, arith, TableValue, empty_table, EntityChange, EntityLocation, RowMove, kinds_at, AreShaped, AreUnlike, IsGrown, StorageValue, archetypes_of, place_of, holder_in, IsHolder, AreAlike, HaveRows, row_changed, holder_changed, IsPlanned}
 use Rattle.std.proofs.lemmas.List.{length_push, get_or_push}
-use Rattle.column_store.specs.Table.{TableValue, empty_table}
-use Rattle.archetype_store.specs.declared.change.EntityChange.{EntityChange}
-use Rattle.archetype_store.specs.declared.locations.EntityLocation.{EntityLocation}
-use Rattle.archetype_store.specs.declared.row_moves.RowMove.{RowMove}
-use Rattle.archetype_store.specs.Tables.{kinds_at, AreShaped, AreUnlike, IsGrown}
-use Rattle.archetype_store.specs.Storage.{StorageValue, archetypes_of, place_of, holder_in, IsHolder, AreAlike, HaveRows, row_changed, holder_changed}
-use Rattle.archetype_store.specs.RowMoves.{IsPlanned}
 use Rattle.archetype_store.proofs.SingleRowMove.{alike_trans, grown_alike, reached_alike}
 
 -- tables as they are
 pub grown_self : (A : List TableValue) → AreShaped A → AreUnlike A → IsGrown A A
-grown_self A shaped unlike = record {
-  held = λ t x. refl;
-  entities = λ t. refl;
-  rooms = λ t. refl;
-  kinds = λ t l. refl;
-  longer = omega arith;
-  shaped = shaped;
-  unlike = unlike;
-  owned = λ o. o;
-  layout = refl;
-}
+grown_self A shaped unlike = grind arith
 
 -- a table that was added is the last one
 pub table_added : {E : Type 0} (r : Result ℕ E) (T T' : List TableValue) (made : TableValue) → IfOk r (λ t. t ≡ length T) → OnOk r (T' ≡ T ++ made ∷ []) → IfOk r (λ t. t < length T')

@@ -1,23 +1,8 @@
 -- Tables by the words of their kinds, and by the numbers of archetypes.
-use Rattle.std.proofs.Common.{◌≡◌, ◌≢◌, ℕ, zero, suc, ◌+◌, ◌*◌, ◌%◌, ◌^◌, ◌<◌, ◌≤◌, Bool, true, false, cond, ◌==◌, ◌||◌, inl, inr, List, [], ◌∷◌, ◌++◌, length, get_or, set, drop, map, nat_eq, Option, Some, None, Result, OnOk, OnErr, Ok, Err, refl, sym, ap, ap₂, subst, ◌∙◌, arith, append_assoc, add-one}
-use Rattle.std.specs.Prelude.{bit_or, slice_get, MatchOption, vec_capacity}
-use Rattle.std.specs.List.{AllByRecursion}
-use Rattle.std.specs.Int.{bit_at, w32}
-use Rattle.std.proofs.lemmas.Bool.{cases_lt, eqb-true, eq-eqb, ne_eqb, or_left}
+use Rattle.archetype_store.proofs.Common.{◌≡◌, ◌≢◌, ℕ, zero, suc, ◌+◌, ◌*◌, ◌%◌, ◌^◌, ◌<◌, ◌≤◌, Bool, true, false, cond, ◌==◌, ◌||◌, inl, inr, List, [], ◌∷◌, ◌++◌, length, get_or, set, drop, map, nat_eq, Option, Some, None, Result, OnOk, OnErr, Ok, Err, refl, sym, ap, ap₂, subst, ◌∙◌, arith, append_assoc, add-one, bit_or, slice_get, MatchOption, vec_capacity, AllByRecursion, bit_at, w32, cases_lt, eq-eqb, or_left, get_or_append_left, drop_more, drop_all, append-nil, get_or-append_seam, has, is_there, AreBelow, TableValue, empty_table, TableIndex, archetype_of, layout_of, table_at, kinds_at, shape_of, number_of, AreShaped, AreAllAlike, IsTableOf, has_bit, peopled_from, IsWord, IsFound, IsIndexed, told_table, set_number, kept_seen, noted, AreListed, eqb-true}
 use Rattle.std.proofs.lemmas.Bool.Decides.{eqb_tells}
-use Rattle.std.proofs.lemmas.List.{get_or_append_left, length-append, drop_more, drop_all, append-nil}
-use Rattle.std.proofs.Math.Seq.{get_or-append_seam}
-use Rattle.std.proofs.lemmas.Nat.Bits.{bit_at-zero, bit_at-lt, bit_at_set_same, bit_at_set_other, same_from_bits}
-use Rattle.model.specs.Lists.{has, is_there}
-use Rattle.column_store.specs.Kinds.{AreBelow}
-use Rattle.column_store.specs.Table.{TableValue, empty_table}
-use Rattle.archetype_store.specs.declared.table_index.TableIndex.{TableIndex}
-use Rattle.archetype_store.specs.Layout.{archetype_of, layout_of}
-use Rattle.archetype_store.specs.Tables.{table_at, kinds_at, shape_of, number_of, AreShaped, AreAllAlike, IsTableOf}
-use Rattle.archetype_store.specs.TableIndex.{has_bit, peopled_from, IsWord, IsFound, IsIndexed}
-use Rattle.archetype_store.specs.TableWords.{told_table}
-use Rattle.archetype_store.specs.LivingSets.{set_number}
-use Rattle.archetype_store.specs.Shapes.{kept_seen, noted, AreListed}
+use Rattle.std.proofs.lemmas.List.{length-append}
+use Rattle.std.proofs.lemmas.Nat.Bits.{bit_at-lt, bit_at_set_same, bit_at_set_other, same_from_bits}
 use Rattle.archetype_store.proofs.FittingTables.{listed_kept, listed_more, alike_numbers, set_numbers}
 use Rattle.archetype_store.proofs.TablesAfterRowChange.{shape_at}
 use Rattle.archetype_store.proofs.KindOrder.{above_has, above_each}
@@ -27,10 +12,6 @@ use Rattle.archetype_store.proofs.RowMoves.{as_many_tables as shapes_many}
 use Rattle.model.proofs.lists.Bools.{false_is}
 
 -- ---- words and kinds
-
--- no bit is set
-pub no_kinds : IsWord 0 []
-no_kinds = λ k. ne_eqb (bit_at 0 k) 1 (λ e. let none : bit_at 0 k ≡ 0 = bit_at-zero k in omega arith)
 
 -- one bit set
 pub bit_set : (word number k : ℕ) → number < 32 → has_bit (bit_or word (1 * 2 ^ number % 2 ^ 32)) k ≡ ((number == k) || has_bit word k)

@@ -1,20 +1,7 @@
 -- The layout of tables is that of the rows that they hold.
-use Rattle.std.proofs.Common.{◌≡◌, ◌≢◌, ℕ, zero, suc, ◌+◌, ◌<◌, Bool, true, false, cond, ◌==◌, ◌||◌, List, [], ◌∷◌, ◌++◌, length, take, get_or, map, Option, Some, None, option_map, is_some, refl, sym, ap, ap₂, ◌∙◌, arith}
-use Rattle.std.proofs.lemmas.List.{length-map, take_more, append-nil, map-append}
-use Rattle.std.proofs.lemmas.Bool.{and_parts, eqb-true}
-use Rattle.std.specs.List.{list_any, AllByRecursion}
-use Rattle.model.specs.Lists.{is_there}
-use Rattle.model.specs.state.State.{Component, Slot}
-use Rattle.model.specs.declared.entities.Entity.{Entity}
-use Rattle.column_store.specs.Order.{is_same}
-use Rattle.column_store.specs.Table.{TableRow, TableValue, is_home, row_of as row_in_table}
-use Rattle.entity_table.specs.Rows.{with_rows}
+use Rattle.archetype_store.proofs.Common.{◌≡◌, ◌≢◌, ℕ, zero, suc, ◌+◌, ◌<◌, Bool, true, false, cond, ◌==◌, ◌||◌, List, [], ◌∷◌, ◌++◌, length, take, get_or, map, Option, Some, None, option_map, is_some, refl, sym, ap, ap₂, ◌∙◌, arith, length-map, take_more, append-nil, map-append, and_parts, list_any, AllByRecursion, is_there, Component, Slot, Entity, is_same, TableRow, TableValue, is_home, with_rows, EntityLocation, Archetype, archetype_of, layout_of, archetype_at, is_in_archetype, IsShape, IsArchetype, AreOfOtherKinds, IsLayoutOf, table_at, kinds_at, held_at, AreShaped, AreUnlike, StorageValue, archetypes_of, row_of, holder_of, place_of, row_in, holder_in, is_place, IsHolder, AreArchetypes, IsLaidOut, HasRows, eqb-true}
+use Rattle.column_store.specs.Table.{row_of as row_in_table}
 use Rattle.entity_table.proofs.WithRows.{is_alive-with_rows}
-use Rattle.archetype_store.specs.declared.locations.EntityLocation.{EntityLocation}
-use Rattle.archetype_store.specs.Layout.{Archetype, archetype_of, layout_of, archetype_at, is_in_archetype, IsShape, IsArchetype, AreOfOtherKinds, IsLayoutOf}
-use Rattle.archetype_store.specs.Tables.{table_at, kinds_at, held_at, AreShaped, AreUnlike}
-use Rattle.archetype_store.specs.Storage.{StorageValue, archetypes_of, row_of, holder_of, place_of, row_in, holder_in, is_place, IsHolder, AreArchetypes, IsLaidOut}
-use Rattle.archetype_store.specs.Inside.{HasRows}
 use Rattle.archetype_store.proofs.PlacesAfterRowChange.{row_seen, holder_seen, somewhere}
 use Rattle.archetype_store.proofs.RowSteps.{kinds_at_place}
 use Rattle.archetype_store.proofs.SlotRows.{holder_lives, row_at_slots}
@@ -121,8 +108,8 @@ module _ {A B : Type 0} (f : Archetype → A) (g : B → A) (entities : List Ent
   -- one without rows is passed over
   pub view_passed : (length entities == 0) ≡ true → map g views ≡ map f (layout_of (take (i + 1) tables))
   view_passed none =
-      let bare = no_rows (λ (row : TableRow). row.entity) t.rows (ap (λ es. length es == 0) (sym theirs) ∙ none) in
-      so_far ∙ ap (map f) (sym (next_layout ∙ ap (λ b. layout_of (take i tables) ++ cond b (archetype_of t ∷ []) []) bare ∙ append-nil (layout_of (take i tables))))
+      let empty = no_rows (λ (row : TableRow). row.entity) t.rows (ap (λ es. length es == 0) (sym theirs) ∙ none) in
+      so_far ∙ ap (map f) (sym (next_layout ∙ ap (λ b. layout_of (take i tables) ++ cond b (archetype_of t ∷ []) []) empty ∙ append-nil (layout_of (take i tables))))
 
   -- one with rows is seen
   pub view_added : (view : B) (next : List B) → (length entities == 0) ≡ false → g view ≡ f (archetype_of t) → next ≡ views ++ view ∷ [] → map g next ≡ map f (layout_of (take (i + 1) tables))
@@ -166,7 +153,7 @@ module _ (T : List TableValue) (P : List (Option EntityLocation)) (h : AreArchet
 
 module _ (book : List Slot) (a : StorageValue) (h : HasRows book a) (laid : IsLaidOut a) where
   holder_some : (e : Entity) (o : Option ℕ) → holder_of a.holders e.index ≡ o → IsHolder e.generation o → is_there (row_of a.rows e.index) ≡ true → o ≡ Some e.generation
-  holder_some e None at fits there = absurd (let none : is_there (row_of a.rows e.index) ≡ false = ap is_there (h.bare e.index at) in cc)
+  holder_some e None at fits there = absurd (let none : is_there (row_of a.rows e.index) ≡ false = ap is_there (h.empty e.index at) in cc)
   holder_some e (Some g) at fits there = ap (λ k. Some k) fits
 
   -- the layout of slots

@@ -1,9 +1,5 @@
 -- Tables of which one has other room.
-use Rattle.std.proofs.Common.{◌≡◌, ℕ, ◌<◌, List, [], ◌∷◌, length, set, map, ◌⊎◌, inl, inr, Result, Ok, Err, OnOk, OnErr, refl, sym, ap, ◌∙◌}
-use Rattle.std.proofs.lemmas.Bool.{cases_eq}
-use Rattle.std.proofs.lemmas.List.{get_or-set_same, get_or-set_other}
-use Rattle.column_store.specs.Table.{TableRow, TableValue, empty_table}
-use Rattle.archetype_store.specs.Tables.{table_at, entities_at, with_room, AreAllAlike}
+use Rattle.archetype_store.proofs.Common.{◌≡◌, ℕ, ◌<◌, List, [], ◌∷◌, length, set, map, ◌⊎◌, inl, inr, Result, Ok, Err, OnOk, OnErr, refl, sym, ap, ◌∙◌, cases_eq, get_or-set_same, get_or-set_other, TableRow, TableValue, empty_table, table_at, entities_at, with_room, AreAllAlike}
 use Rattle.archetype_store.proofs.ColumnStandings.{alike_set, alike_same}
 
 pub roomed_alike : (T : List TableValue) (t room : ℕ) → AreAllAlike T (set T t (with_room room (table_at T t)))

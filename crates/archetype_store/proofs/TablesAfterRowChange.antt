@@ -1,22 +1,6 @@
 -- What a change of one row leaves in tables.
-use Rattle.std.proofs.Common.{◌≡◌, ◌≢◌, ℕ, zero, suc, ◌+◌, ◌-◌, ◌<◌, ◌≤◌, Bool, true, false, cond, ◌==◌, ◌⊎◌, inl, inr, List, [], ◌∷◌, ◌++◌, length, set, map, Option, Some, None, option_map, is_some, option_and_then, Result, Ok, Err, OnOk, refl, sym, ap, ap₂, subst, ◌∙◌, arith}
-use Rattle.std.proofs.lemmas.Bool.{cases_eq, eq-eqb, ne_eqb}
-use Rattle.std.proofs.lemmas.List.{get_or-set_same, get_or-set_other, length-map, map-append}
-use Rattle.std.proofs.Math.Seq.{map-set_same}
-use Rattle.std.specs.List.{AllByRecursion, list_all}
-use Rattle.std.specs.Prelude.{slice_get}
-use Rattle.model.specs.Lists.{is_there, update_at}
-use Rattle.model.specs.state.State.{Component}
-use Rattle.model.specs.state.Rows.{cell_at}
-use Rattle.model.specs.declared.entities.Entity.{Entity}
-use Rattle.column_store.specs.declared.stamped.StampedValue.{StampedValue}
-use Rattle.column_store.specs.Cells.{stamped_number, stamped_cell}
-use Rattle.column_store.specs.Kinds.{AreBelow}
-use Rattle.column_store.specs.Order.{is_same, AreApart}
-use Rattle.column_store.specs.Places.{IsPlace}
-use Rattle.column_store.specs.Swapped.{swap_removed}
-use Rattle.column_store.specs.Components.{components_in, components_of}
-use Rattle.column_store.specs.Table.{TableRow, TableValue, is_owned, row_of, new_row, renewed_row, empty_table, cell_of_kind, cell_in_row}
+use Rattle.archetype_store.proofs.Common.{◌≡◌, ◌≢◌, ℕ, zero, suc, ◌+◌, ◌-◌, ◌<◌, ◌≤◌, Bool, true, false, cond, ◌==◌, ◌⊎◌, inl, inr, List, [], ◌∷◌, ◌++◌, length, set, map, Option, Some, None, option_map, is_some, option_and_then, Result, Ok, Err, OnOk, refl, sym, ap, ap₂, subst, ◌∙◌, arith, cases_eq, eq-eqb, ne_eqb, get_or-set_same, get_or-set_other, length-map, map-append, map-set_same, AllByRecursion, list_all, slice_get, is_there, update_at, Component, cell_at, Entity, StampedValue, stamped_number, stamped_cell, AreBelow, is_same, AreApart, IsPlace, swap_removed, components_in, components_of, TableRow, TableValue, is_owned, new_row, renewed_row, empty_table, cell_of_kind, cell_in_row, component_of, IsShape, archetype_of, layout_of, table_at, kinds_at, held_in, held_at, room_at, entities_at, row_or_none, shape_of, AreShaped, AreUnlike, AreOwned, IsHeldNow, IsGrown, IsOneTable}
+use Rattle.column_store.specs.Table.{row_of}
 use Rattle.column_store.proofs.Apart.{same_self, same_entity, get_within, apart-place}
 use Rattle.column_store.proofs.Edited.{head_none}
 use Rattle.column_store.proofs.Kept.{apart-swap}
@@ -24,9 +8,6 @@ use Rattle.column_store.proofs.Lists.{get-map, map-update_at_same}
 use Rattle.column_store.proofs.Rows.{row_of-place}
 use Rattle.column_store.proofs.Swapped.{length-swap_removed, map-swap_removed, get-swap_here, get-swap_other}
 use Rattle.column_store.proofs.TheirComponents.{cells_are_theirs}
-use Rattle.archetype_store.specs.Row.{component_of}
-use Rattle.archetype_store.specs.Layout.{IsShape, archetype_of, layout_of}
-use Rattle.archetype_store.specs.Tables.{table_at, kinds_at, held_in, held_at, room_at, entities_at, row_or_none, shape_of, AreShaped, AreUnlike, AreOwned, IsHeldNow, IsGrown, IsOneTable}
 use Rattle.model.proofs.lists.Places.{get-there, each-push}
 
 -- ---- rows of one table

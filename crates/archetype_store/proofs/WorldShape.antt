@@ -1,37 +1,12 @@
 -- What keeps a world in its shape.
-use Rattle.std.proofs.Common.{◌≡◌, ℕ, ◌≤◌, Bool, true, false, cond, ◌==◌, ◌&&◌, ◌⊎◌, inl, inr, Result, Ok, Err, ℤ, pos, List, [], ◌∷◌, length, get_or, sum, Some, refl, sym, subst, ◌∙◌, arith}
-use Rattle.std.specs.Prelude.{OnOk, OnErr, IsErrOf}
-use Rattle.std.specs.List.{AllByRecursion}
-use Rattle.kinds.specs.Components.{widths}
-use Rattle.model.specs.declared.entities.Entity.{Entity}
-use Rattle.model.specs.Lists.{update_at}
-use Rattle.model.specs.state.State.{Component, Slot, World, fresh_slot, most_indices}
-use Rattle.model.specs.state.State.Status.{Living}
-use Rattle.model.specs.sessions.Inputs.{next_id}
-use Rattle.model.specs.state.Rows.{IsRising}
-use Rattle.model.specs.state.Ids.{has_ids, grant, has_ids_for_each, grant_each}
-use Rattle.model.specs.state.Commands.{spawned, release}
-use Rattle.model.specs.state.Loaded.{resource_given}
-use Rattle.model.specs.shown.Overlay.{resource_after}
-use Rattle.model.specs.state.Shape.{IsComponent, IsSlot, IsWorld}
-use Rattle.model.proofs.lists.Each.{each-update_at, each-map_index}
-use Rattle.model.proofs.lists.Lists.{length-update_at, length-map_index}
+use Rattle.archetype_store.proofs.Common.{◌≡◌, ℕ, ◌≤◌, Bool, true, false, cond, ◌==◌, ℤ, pos, List, [], ◌∷◌, length, get_or, sum, Some, sym, subst, ◌∙◌, arith, AllByRecursion, widths, Entity, update_at, Component, Slot, World, fresh_slot, most_indices, Living, next_id, IsRising, has_ids, grant, has_ids_for_each, grant_each, spawned, release, resource_given, resource_after, IsComponent, IsSlot, IsWorld, each-map_index, length-map_index, spawned_all, settled, Fate, EntityChange, components_left, slot_left, change_at, changed, with_new, CanChange, with_slots, with_slot, with_resource}
+use Rattle.model.proofs.lists.Each.{each-update_at}
+use Rattle.model.proofs.lists.Lists.{length-update_at}
 use Rattle.model.proofs.shape.Slots.{slot-spawned, slot-freed, slots-grant, length-grant, slots-release, length-release}
-use Rattle.entity_table.specs.Ids.{spawned_all, settled}
 use Rattle.entity_table.proofs.Levels.{grant_each-is, has_ids_for_each-is}
-use Rattle.archetype_store.specs.declared.change.Fate.{Fate}
 use Rattle.archetype_store.specs.declared.change.Fate.TheVariants as the
-use Rattle.archetype_store.specs.declared.change.EntityChange.{EntityChange}
-use Rattle.archetype_store.specs.Changes.{components_left, slot_left, change_at, changed, with_new, CanChange}
-use Rattle.archetype_store.specs.Store.{with_slots, with_slot, with_resource}
 
 -- ---- outcomes
-
--- what a call has done that refuses where a test fails, and else only for a failed allocation
-pub outcome_of : {T E : Type 0} (r : Result T E) (fault : E) (test : Bool) (P Q : Type 0) → OnOk r P → OnErr r Q → (test ≡ false → IsErrOf r fault) → ((test ≡ true) × P) ⊎ Q
-outcome_of (Ok x) fault true P Q p q h = inl (refl, p)
-outcome_of (Ok x) fault false P Q p q h = let e = h refl in cc
-outcome_of (Err e) fault test P Q p q h = inr q
 
 -- ---- worlds
 
@@ -49,10 +24,6 @@ world-slots W w slots all few p = record {
 -- a world with one slot changed
 world-slot : (W : ℕ → ℕ) (w : World) (i : ℕ) (f : Slot → Slot) → (IsSlot W w.clock (get_or w.slots i fresh_slot) → IsSlot W w.clock (f (get_or w.slots i fresh_slot))) → IsWorld W w → IsWorld W (with_slot i f w)
 world-slot W w i f step p = world-slots W w (update_at i f w.slots) (each-update_at (IsSlot W w.clock) i f w.slots fresh_slot step p.slots) (let e = length-update_at i f w.slots in omega (arith, p.few)) p
-
-first_of : (a b : Bool) → (a && b) ≡ true → a ≡ true
-first_of true b h = refl
-first_of false b h = cc
 
 pub world-spawn : (W : ℕ → ℕ) (w : World) (e : Entity) → IsWorld W w → IsWorld W (with_slot e.index (spawned e.generation) w)
 world-spawn W w e p = world-slot W w e.index (spawned e.generation) (slot-spawned W w.clock e.generation (get_or w.slots e.index fresh_slot)) p

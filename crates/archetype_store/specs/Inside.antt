@@ -23,7 +23,7 @@ store_seen book v resources clock = record { state = record { slots = slots_seen
 -- rows of the indices of a book: who has one lives, and an index of which nobody has one has none
 pub record HasRows (book : List Slot) (archetypes : StorageValue) : Type 0 where
   pub live : (index generation : ℕ) → holder_of archetypes.holders index ≡ Some generation → is_alive book (record { index = index; generation = generation }) ≡ true
-  pub bare : (index : ℕ) → holder_of archetypes.holders index ≡ None → row_of archetypes.rows index ≡ []
+  pub empty : (index : ℕ) → holder_of archetypes.holders index ≡ None → row_of archetypes.rows index ≡ []
 
 -- what holds of the inside: the rows are of the book, tables are found, and the state has the shape of a world
 pub record IsStore (book : List Slot) (v : RowsValue) (index : TableIndex) (resources : List Resource) (clock : ℕ) : Type 0 where

@@ -21,8 +21,8 @@ abbrev pub first_numbers : Bool → List ℕ
 first_numbers without = cond without (0 ∷ []) []
 
 -- whether an entity lives without components
-abbrev pub is_bare : Slot → Bool
-is_bare slot = is_living slot.status && not (is_there slot.row)
+abbrev pub lives_empty : Slot → Bool
+lives_empty slot = is_living slot.status && not (is_there slot.row)
 
 -- the number of the kinds of a view of an archetype
 abbrev pub number_seen : ArchetypeView → ℕ

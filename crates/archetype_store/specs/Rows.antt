@@ -1,12 +1,14 @@
 -- The rows of entities in tables of archetypes, and what a call makes of them.
-use Rattle.std.specs.Prelude.{◌≡◌, ◌≢◌, ℕ, suc, ◌+◌, ◌-◌, ◌<◌, Bool, cond, List, [], ◌∷◌, ◌++◌, length, map, set, Option, Some, None}
+use Rattle.std.specs.Prelude.{◌≡◌, ◌≢◌, ℕ, suc, ◌-◌, ◌<◌, Bool, cond, List, [], ◌∷◌, ◌++◌, length, map, set, slice_get, Option, Some, None}
 use Rattle.model.specs.Lists.{update_at}
 use Rattle.model.specs.declared.entities.Entity.{Entity}
+use Rattle.model.specs.state.State.{Cell}
 use Rattle.column_store.specs.declared.stamped.StampedValue.{StampedValue}
 use Rattle.column_store.specs.Cells.{stamped_number}
 use Rattle.column_store.specs.Order.{is_same, AreApart}
 use Rattle.column_store.specs.Swapped.{swap_removed}
 use Rattle.column_store.specs.Table.{TableRow, TableValue, new_row, renewed_row}
+use Rattle.archetype_store.specs.declared.entity_rows.CellRef.{CellRef}
 use Rattle.archetype_store.specs.declared.locations.EntityLocation.{EntityLocation}
 use Rattle.archetype_store.specs.RowNumbers.{AreRowsKnown}
 use Rattle.archetype_store.specs.Storage.{StorageValue, archetypes_of, holder_in, place_of, AreArchetypes, IsHolder, IsStored}
@@ -31,6 +33,14 @@ pub record AreRows (v : RowsValue) : Type 0 where
   pub whole : AreArchetypes v.tables v.places
   pub apart : (t : ℕ) → AreApart (entities_at v.tables t)
 
+-- the cell that is told, and that it is there, in a column of a kind
+abbrev pub cell_seen : CellRef → Option Cell
+cell_seen c = slice_get c.column.now.cells c.row
+
+pub record IsCellOf (kind : ℕ) (c : CellRef) : Type 0 where
+  pub kind_is : c.column.now.kind ≡ kind
+  pub within : c.row < length c.column.now.cells
+
 -- ---- one row
 
 -- how many rows come before that of an entity
@@ -50,6 +60,10 @@ without_row e t = record { kinds = t.kinds; standings = t.standings; rows = swap
 abbrev pub with_row_renewed : Entity → List StampedValue → TableValue → TableValue
 with_row_renewed e ss t = record { kinds = t.kinds; standings = t.standings; rows = update_at (row_number e t.rows) (renewed_row ss) t.rows; room = t.room }
 
+-- another table in the place of one
+abbrev pub with_table : RowsValue → ℕ → TableValue → RowsValue
+with_table v table t = record { tables = set v.tables table t; places = v.places }
+
 -- the place of an entity in a table
 abbrev pub placed_in : Entity → ℕ → Option EntityLocation
 placed_in e table = Some (record { generation = e.generation; table = table })
@@ -68,11 +82,11 @@ left v e = left_from v e (place_of v.places e.index)
 
 -- the row of an entity has other components, in the table where it is
 abbrev pub renewed : RowsValue → Entity → ℕ → List StampedValue → RowsValue
-renewed v e table ss = record { tables = set v.tables table (with_row_renewed e ss (table_at v.tables table)); places = v.places }
+renewed v e table ss = with_table v table (with_row_renewed e ss (table_at v.tables table))
 
 -- a table has room for so many further rows
 abbrev pub roomed : RowsValue → ℕ → ℕ → RowsValue
-roomed v table room = record { tables = set v.tables table (with_room room (table_at v.tables table)); places = v.places }
+roomed v table room = with_table v table (with_room room (table_at v.tables table))
 
 -- ---- who can come, and what can be replaced
 

@@ -11,7 +11,7 @@ use Rattle.archetype_store.specs.declared.change.EntityChange.{EntityChange}
 use Rattle.archetype_store.specs.Changes.{components_left}
 use Rattle.archetype_store.specs.declared.locations.EntityLocation.{EntityLocation}
 use Rattle.archetype_store.specs.Layout.{Archetype, layout_of, archetype_at, is_in_archetype, with_home, IsArchetype, AreOfOtherKinds}
-use Rattle.archetype_store.specs.Tables.{kinds_at, held_at, row_or_none, AreShaped, AreUnlike, AreBareHome, AreUnshared}
+use Rattle.archetype_store.specs.Tables.{kinds_at, held_at, row_or_none, AreShaped, AreUnlike, AreEmptyHome, AreUnshared}
 
 -- rows by index, of each index that has a row the generation of its entity, and how the rows are laid out
 pub record StorageValue : Type 0 where
@@ -111,7 +111,7 @@ pub record AreArchetypes (tables : List TableValue) (places : List (Option Entit
 -- rows has its columns at home
 pub record IsStored (tables : List TableValue) (places : List (Option EntityLocation)) (shared : Bool) : Type 0 where
   pub whole : AreArchetypes tables places
-  pub bare : AreBareHome tables
+  pub empty : AreEmptyHome tables
   pub unshared : shared ≡ false → AreUnshared tables
 
 -- ---- cells of columns

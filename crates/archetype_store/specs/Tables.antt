@@ -74,8 +74,8 @@ abbrev pub AreUnshared : List TableValue → Type 0
 AreUnshared tables = AllByRecursion (λ t. list_all is_unshared t.standings ≡ true) tables
 
 -- a table without rows has its columns at home
-abbrev pub AreBareHome : List TableValue → Type 0
-AreBareHome tables = AllByRecursion (λ t. is_there t.rows ≡ false → list_all is_home t.standings ≡ true) tables
+abbrev pub AreEmptyHome : List TableValue → Type 0
+AreEmptyHome tables = AllByRecursion (λ t. is_there t.rows ≡ false → list_all is_home t.standings ≡ true) tables
 
 -- tables that differ in nothing but which of the columns at home are read elsewhere too
 abbrev pub AreAllAlike : List TableValue → List TableValue → Type 0

@@ -1,23 +1,31 @@
 // The rows of entities: the tables of archetypes, and where in them each entity has its row.
 
-ghost use Rattle.std.specs.Prelude.{◌≡◌, ◌<◌, [], map, option_map, None, Some, IsSome, IfSome, IfOk, OnOk};
+ghost use Rattle.std.specs.Prelude.{◌≡◌, [], map, option_and_then, Some, IsSome, IfSome, IfOk, OnOk};
+ghost use Rattle.kinds.specs.Kind.{kind_number};
 ghost use Rattle.model.specs.state.Rows.{cell_at, kinds_of};
-ghost use Rattle.column_store.specs.Cells.{stamped_number};
 ghost use Rattle.archetype_store.specs.Layout.{layout_of, AreAllHome, IsCellHome, IsRowHome};
 ghost use Rattle.archetype_store.specs.Row.{component_of};
-ghost use Rattle.archetype_store.specs.Rows.{rows_seen, AreRows};
+ghost use Rattle.archetype_store.specs.Rows.{rows_seen, cell_seen, AreRows, IsCellOf};
 ghost use Rattle.archetype_store.specs.Storage.{place_of, row_of};
 ghost use Rattle.archetype_store.specs.Tables.{entity_in_row, AreAllAlike};
 
 mod columns;
 mod moves;
 
-use crate::locations::{EntityLocation, place_at};
+use crate::locations::EntityLocation;
 use crate::owning::copied_tables;
 use crate::tables::has_kind;
-use column_store::{Components, StampedValue, Table};
+use column_store::{Components, StampedColumn, Table};
+use kinds::Kind;
 use std::alloc::{AllocError, Global};
 use std::marker::Model;
+
+// Where a component is: its column, and its row there.
+#[derive(Clone, Copy)]
+pub(crate) struct CellRef<'a> {
+    pub(crate) column: &'a StampedColumn,
+    pub(crate) row: usize,
+}
 
 /// The rows of entities, one entity at most for each index. An entity that has a row has it in the table of just its kinds, and no two tables
 /// have the same kinds. Contracts see the tables, and by index in which of them an entity has its row.
@@ -89,7 +97,11 @@ impl Rows {
     pub(crate) fn place(&self, index: u32) -> Option<EntityLocation>
         ensures { result ≡ place_of self.now.places index }
     {
-        place_at(&self.places, index)
+        if (index as usize) < self.places.len() {
+            self.places[index as usize]
+        } else {
+            None
+        }
     }
 
     // The number of the row of an index in its table.
@@ -102,20 +114,21 @@ impl Rows {
         self.row_numbers[index as usize]
     }
 
-    // The component of the kind with this number of the entity of an index.
-    pub(crate) fn find(&self, index: u32, number: u32) -> Option<StampedValue>
-        requires { IsCellHome (layout_of self.now.tables) index number }
-        ensures cell { option_map (λ s. (component_of s).cell) result
-            ≡ cell_at (row_of (rows_seen self.now).rows index) number }
-        ensures number { IfSome result (λ s. stamped_number s ≡ number) }
+    // Where the component of a kind of the entity of an index is, where it has one.
+    pub(crate) fn cell(&self, index: u32, kind: Kind) -> Option<CellRef<'_>>
+        requires { IsCellHome (layout_of self.now.tables) index (kind_number kind) }
+        ensures cell { option_and_then cell_seen result
+            ≡ cell_at (row_of (rows_seen self.now).rows index) (kind_number kind) }
+        ensures there { IfSome result (IsCellOf (kind_number kind)) }
     {
-        match self.place(index) {
+        let Some(place) = self.place(index) else {
+            return None;
+        };
+        let there = &self.tables[place.table];
+        let row = self.number(index);
+        match there.column(kind) {
             None => None,
-            Some(place) => {
-                let row = self.number(index);
-                let there = &self.tables[place.table];
-                there.find(row, number)
-            }
+            Some(column) => Some(CellRef { column, row }),
         }
     }
 

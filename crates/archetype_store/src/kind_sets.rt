@@ -1,7 +1,7 @@
 // The sets of kinds of the living entities.
 
-ghost use Rattle.std.specs.Prelude.{◌≡◌, ◌<◌, ◌^◌, ◌++◌, map, sum_by, IfOk};
 ghost use Rattle.std.specs.List.{AllByRecursion};
+ghost use Rattle.std.specs.Prelude.{◌≡◌, ◌<◌, ◌^◌, ◌++◌, map, sum_by, IfOk};
 ghost use Rattle.kinds.specs.Kind.{kind_number};
 ghost use Rattle.model.specs.state.KindSets.{set_limit};
 ghost use Rattle.archetype_store.specs.LivingSets.{set_number, numbers_with, first_numbers, number_seen, entity_count};

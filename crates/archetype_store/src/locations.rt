@@ -1,8 +1,8 @@
 // Where the entities of indices are: in which table, and at which generation.
 
 ghost use Rattle.std.specs.Prelude.{◌≡◌, ◌<◌, ◌≤◌, ℕ, length, OnOk};
-ghost use Rattle.archetype_store.specs.Storage.{place_of};
 ghost use Rattle.archetype_store.specs.RowNumbers.{number_of_row};
+ghost use Rattle.archetype_store.specs.Storage.{place_of};
 
 use entity_table::Entity;
 use std::alloc::AllocError;
@@ -23,17 +23,6 @@ pub struct RowPlace {
     pub archetype: usize,
     /// Its place among the entities of the archetype.
     pub place: usize,
-}
-
-// The place of an index.
-pub(crate) fn place_at(places: &[Option<EntityLocation>], index: u32) -> Option<EntityLocation>
-    ensures { result ≡ place_of places.now index }
-{
-    if (index as usize) < places.len() {
-        places[index as usize]
-    } else {
-        None
-    }
 }
 
 // Makes room for the place of an index, which is none, and for the number of its row. After an error there may be room for some, which no

@@ -3,10 +3,10 @@
 ghost use Rattle.std.specs.Prelude.{◌≡◌, pos, replicate, Some};
 ghost use Rattle.kinds.specs.Res.{res_number};
 ghost use Rattle.model.specs.Lists.{update_at};
-ghost use Rattle.model.specs.state.State.{resource_count};
 ghost use Rattle.model.specs.shown.Input.{value_of};
-ghost use Rattle.model.specs.state.Loaded.{resource_given};
 ghost use Rattle.model.specs.shown.Overlay.{resource_after};
+ghost use Rattle.model.specs.state.Loaded.{resource_given};
+ghost use Rattle.model.specs.state.State.{resource_count};
 ghost use Rattle.archetype_store.specs.Resources.{changed_of};
 
 use change_ticks::Tick;

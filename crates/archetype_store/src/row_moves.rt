@@ -1,17 +1,17 @@
 // Rows of several entities that change at once: all that can fail is done first, then the rows that go elsewhere leave, the last one first,
 // and then one after the other comes where it goes.
 
-ghost use Rattle.std.specs.Prelude.{◌≡◌, ◌<◌, ◌≤◌, ℕ, [], length, map, None, Some, IfOk, OnOk, OnErr};
 ghost use Rattle.std.specs.List.{AllByRecursion};
+ghost use Rattle.std.specs.Prelude.{◌≡◌, ◌<◌, ◌≤◌, ℕ, [], length, map, None, Some, IfOk, OnOk, OnErr};
 ghost use Rattle.column_store.specs.Cells.{stamped_number};
 ghost use Rattle.column_store.specs.Kinds.{AreBelow};
 ghost use Rattle.archetype_store.specs.Changes.{row_left, AreOfOtherIndices};
 ghost use Rattle.archetype_store.specs.Layout.{layout_of, AreAllHome};
+ghost use Rattle.archetype_store.specs.RowMoves.{change_of, arrives_in, stays_in, gone, come, HaveRoom, HasLeft, IsPlanned, IsTarget, AreAlikeBefore};
+ghost use Rattle.archetype_store.specs.Rows.{rows_seen, IsTheirs};
+ghost use Rattle.archetype_store.specs.Storage.{place_of, AreAlike, HaveRows};
 ghost use Rattle.archetype_store.specs.TableIndex.{IsFound, IsIndexed};
 ghost use Rattle.archetype_store.specs.Tables.{room_at, shape_of, AreOwned, AreAllAlike, IsGrown};
-ghost use Rattle.archetype_store.specs.Storage.{place_of, AreAlike, HaveRows};
-ghost use Rattle.archetype_store.specs.Rows.{rows_seen, IsTheirs};
-ghost use Rattle.archetype_store.specs.RowMoves.{change_of, arrives_in, stays_in, gone, come, HaveRoom, HasLeft, IsPlanned, IsTarget, AreAlikeBefore};
 
 use crate::change::EntityChange;
 use crate::entity_rows::Rows;

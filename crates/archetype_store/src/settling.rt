@@ -1,7 +1,7 @@
 // What changes of entities make of the id book.
 
-ghost use Rattle.std.specs.Prelude.{◌≡◌, true};
 ghost use Rattle.std.specs.List.{AllByRecursion};
+ghost use Rattle.std.specs.Prelude.{◌≡◌, true};
 ghost use Rattle.model.specs.Lists.{update_at};
 ghost use Rattle.model.specs.state.Commands.{is_alive};
 ghost use Rattle.entity_table.specs.Ids.{IsBook};

@@ -1,7 +1,7 @@
 // Shapes: what queries ask of the kinds of archetypes, and the tables that fit those that are kept.
 
-ghost use Rattle.std.specs.Prelude.{◌≡◌, ◌<◌, map, get_or, None, IfOk, OnOk};
 ghost use Rattle.std.specs.List.{AllByRecursion};
+ghost use Rattle.std.specs.Prelude.{◌≡◌, ◌<◌, map, get_or, None, IfOk, OnOk};
 ghost use Rattle.archetype_store.specs.Shapes.{shape_number, fits, fitting_tables, numbered, kept_seen, noted, HasRoom};
 
 use crate::kind_sets::number_of;

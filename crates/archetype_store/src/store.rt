@@ -1,30 +1,27 @@
 // The world: entities with their components, resources and the clock.
 
-ghost use Rattle.std.specs.Prelude.{◌≡◌, ◌+◌, ◌≤◌, ◌<◌, ◌↔◌, ℕ, false, [], Some, length, map, option_map, is_some, IfSome, IsTrue, IfOk, IsErr, OnOk, OnErr};
-ghost use Rattle.kinds.specs.Kind.{kind_number};
-ghost use Rattle.model.specs.Lists.{is_there};
-ghost use Rattle.kinds.specs.Res.{res_number};
-ghost use Rattle.kinds.specs.Components.{widths};
-ghost use Rattle.model.specs.state.State.{last_tick};
-ghost use Rattle.model.specs.state.Shape.{IsWorld};
-ghost use Rattle.model.specs.state.Rows.{row_at};
-ghost use Rattle.model.specs.state.KindSets.{kind_sets_of};
-ghost use Rattle.model.specs.shown.Input.{value_of, words_of};
-ghost use Rattle.model.specs.state.Ids as ids;
-ghost use Rattle.model.specs.state.Commands as commands;
-ghost use Rattle.archetype_store.specs.Row.{component_of};
-ghost use Rattle.column_store.specs.Cells.{stamped_number};
 ghost use Rattle.std.specs.List.{AllByRecursion};
-ghost use Rattle.archetype_store.specs.Slot.{cell_of};
+ghost use Rattle.std.specs.Prelude.{◌≡◌, ◌+◌, ◌≤◌, ◌<◌, ◌↔◌, ℕ, false, [], Some, length, map, option_map, is_some, IfSome, IsTrue, IfOk, IsErr, OnOk, OnErr};
+ghost use Rattle.kinds.specs.Components.{widths};
+ghost use Rattle.kinds.specs.Kind.{kind_number};
+ghost use Rattle.kinds.specs.Res.{res_number};
+ghost use Rattle.model.specs.Lists.{is_there};
+ghost use Rattle.model.specs.shown.Input.{value_of, words_of};
+ghost use Rattle.model.specs.state.KindSets.{kind_sets_of};
+ghost use Rattle.model.specs.state.Rows.{row_at};
+ghost use Rattle.model.specs.state.Shape.{IsWorld};
+ghost use Rattle.model.specs.state.State.{last_tick};
+ghost use Rattle.column_store.specs.RowOrder.{OrdersRows};
+ghost use Rattle.archetype_store.specs.Changes.{changed};
 ghost use Rattle.archetype_store.specs.Layout.{archetype_at, IsLayoutOf, AreAllHome, IsCellHome, IsRowHome};
 ghost use Rattle.archetype_store.specs.Places.{IsRowPlace};
-ghost use Rattle.column_store.specs.Order.{AreApart as AreRowsApart};
-ghost use Rattle.column_store.specs.RowOrder.{OrdersRows};
-ghost use Rattle.archetype_store.specs.Shapes.{shape_number, fitting_from};
-ghost use Rattle.archetype_store.specs.View.{kinds_seen, entities_seen};
 ghost use Rattle.archetype_store.specs.Resources.{changed_of};
-ghost use Rattle.archetype_store.specs.Changes.{changed};
+ghost use Rattle.archetype_store.specs.Row.{component_of};
+ghost use Rattle.archetype_store.specs.Shapes.{shape_number, fitting_from};
+ghost use Rattle.archetype_store.specs.Slot.{cell_of};
 ghost use Rattle.archetype_store.specs.Store.{empty_world, with_resource, at_clock, stamp_of};
+ghost use Rattle.archetype_store.specs.View.{kinds_seen, entities_seen};
+ghost use Rattle.column_store.specs.Order.{AreApart as AreRowsApart};
 
 mod changes;
 mod columns;
@@ -42,7 +39,7 @@ use crate::table_index::TableIndex;
 pub use crate::tables::ArchetypeView;
 use crate::tables::{view_at, views_of};
 use change_ticks::{Clock, ClockSpent, Stamp, Tick};
-use column_store::{Components, StampedValue};
+use column_store::Components;
 use entity_table::{Entity, EntityTable};
 use kinds::{Component, Kind, Res};
 use model::KindSets;
@@ -248,27 +245,17 @@ impl World {
         ensures rows { (index : ℕ) → IsRowHome self.now.layout index }
     {}
 
-    // The component of the kind with this number, where the entity lives and has one.
-    fn find(&self, e: Entity, number: u32) -> Option<StampedValue>
-        requires { IsCellHome self.now.layout e.index number }
-        ensures cell { option_map (λ s. (component_of s).cell) result
-            ≡ cell_of self.now.state.slots e number }
-        ensures number { IfSome result (λ s. stamped_number s ≡ number) }
-    {
-        if !self.lives(e) {
-            return None;
-        }
-        self.rows.find(e.index, number)
-    }
-
     /// The component of this kind of an entity that lives: of the columns that of the kind has to be at home in its archetype.
     pub fn get<C: Component>(&self, e: Entity) -> Option<C>
         requires { IsCellHome self.now.layout e.index C.NUMBER }
         ensures { option_map C.words result ≡ words_of (cell_of self.now.state.slots e C.NUMBER) }
     {
-        match self.find(e, C::NUMBER) {
-            Some(stored) => C::from_value(stored.value),
+        if !self.lives(e) {
+            return None;
+        }
+        match self.rows.cell(e.index, C::kind()) {
             None => None,
+            Some(cell) => Some(cell.column.get(cell.row)),
         }
     }
 
@@ -287,9 +274,12 @@ impl World {
         requires { IsCellHome self.now.layout e.index (kind_number kind) }
         ensures { result ≡ option_map stamp_of (cell_of self.now.state.slots e (kind_number kind)) }
     {
-        match self.find(e, kind.number()) {
-            Some(stored) => Some(stored.stamp),
+        if !self.lives(e) {
+            return None;
+        }
+        match self.rows.cell(e.index, kind) {
             None => None,
+            Some(cell) => Some(cell.column.stamp(cell.row)),
         }
     }
 

@@ -6,9 +6,9 @@ ghost use Rattle.column_store.specs.Cells.{stamped_number};
 ghost use Rattle.column_store.specs.Table.{TableValue};
 ghost use Rattle.archetype_store.specs.Layout.{layout_of};
 ghost use Rattle.archetype_store.specs.Shapes.{shape_number, fitting_from, fitting_tables, numbers_from};
-ghost use Rattle.archetype_store.specs.Tables.{IsTableOf};
-ghost use Rattle.archetype_store.specs.TableWords.{told_table};
 ghost use Rattle.archetype_store.specs.TableIndex.{has_bit, IsWord, IsFound, IsIndexed};
+ghost use Rattle.archetype_store.specs.TableWords.{told_table};
+ghost use Rattle.archetype_store.specs.Tables.{IsTableOf};
 
 use crate::kind_sets::number_of;
 use crate::shapes::{

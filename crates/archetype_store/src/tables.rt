@@ -1,17 +1,17 @@
 // The tables of archetypes, and what is done in them to the row of one entity.
 
-ghost use Rattle.std.specs.Prelude.{◌≡◌, ◌≢◌, ◌==◌, ◌<◌, ◌-◌, [], length, map, None, Some, IfOk, slice_get};
 ghost use Rattle.std.specs.List.{list_any, AllByRecursion};
-ghost use Rattle.column_store.specs.Order.{AreApart};
-ghost use Rattle.column_store.specs.RowOrder.{OrdersRows};
+ghost use Rattle.std.specs.Prelude.{◌≡◌, ◌≢◌, ◌==◌, ◌<◌, ◌-◌, [], length, map, None, Some, IfOk, slice_get};
 ghost use Rattle.kinds.specs.Kind.{kind_number};
 ghost use Rattle.column_store.specs.Cells.{stamped_number};
 ghost use Rattle.column_store.specs.Kinds.{AreBelow};
+ghost use Rattle.column_store.specs.Order.{AreApart};
+ghost use Rattle.column_store.specs.RowOrder.{OrdersRows};
 ghost use Rattle.column_store.specs.Table.{empty_table};
 ghost use Rattle.archetype_store.specs.Layout.{layout_of};
-ghost use Rattle.archetype_store.specs.View.{kinds_seen, entities_seen};
 ghost use Rattle.archetype_store.specs.TableIndex.{IsFound};
 ghost use Rattle.archetype_store.specs.Tables.{kinds_at, entities_at, AreShaped, AreUnlike, IsGrown};
+ghost use Rattle.archetype_store.specs.View.{kinds_seen, entities_seen};
 
 use crate::table_index::{TableIndex, word_of};
 use column_store::{RowOrder, StampedValue, Table};

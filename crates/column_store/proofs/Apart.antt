@@ -1,10 +1,5 @@
 -- Ids of which none is there twice, and their places.
-use Rattle.std.proofs.Common.{◌≡◌, ℕ, zero, suc, ◌<◌, Bool, true, false, ◌==◌, ◌&&◌, ◌⊎◌, inl, inr, List, [], ◌∷◌, ◌++◌, length, Some, refl, sym, ap, ap₂, ◌∙◌, arith}
-use Rattle.std.proofs.lemmas.Bool.Decides.{nat_tests}
-use Rattle.std.specs.Prelude.{slice_get}
-use Rattle.model.specs.declared.entities.Entity.{Entity}
-use Rattle.column_store.specs.Order.{is_same, AreApart}
-use Rattle.column_store.specs.Places.{IsPlace, IsNowhere}
+use Rattle.column_store.proofs.Common.{◌≡◌, ℕ, zero, suc, ◌<◌, Bool, true, false, ◌==◌, ◌&&◌, ◌⊎◌, inl, inr, List, [], ◌∷◌, ◌++◌, length, Some, refl, sym, ap, ap₂, ◌∙◌, arith, nat_tests, slice_get, Entity, is_same, AreApart, IsPlace, IsNowhere}
 
 same_numbers : (a b : ℕ) → ((a == a) && (b == b)) ≡ true
 same_numbers a b = grind (arith, nat_tests)

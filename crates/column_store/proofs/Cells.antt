@@ -1,14 +1,5 @@
 -- Cells of words and stamps, and edits of them.
-use Rattle.std.proofs.Common.{◌≡◌, ℕ, zero, suc, ◌-◌, ◌<◌, ℤ, List, [], ◌∷◌, ◌++◌, length, get_or, set, take, option_map, refl, sym, ap, ◌∙◌, arith}
-use Rattle.std.specs.List.{swap_remove}
-use Rattle.kinds.specs.Components.{word_at}
-use Rattle.std.specs.Prelude.{slice_get, Some}
-use Rattle.change_ticks.specs.declared.stamp.Stamp.{Stamp}
-use Rattle.model.specs.state.State.{Cell}
-use Rattle.model.specs.Lists.{update_at}
-use Rattle.column_store.specs.Column.{cell_of, cells_of}
-use Rattle.column_store.specs.Cells.{stamp_of, changed_cell}
-use Rattle.column_store.specs.Swapped.{swap_removed}
+use Rattle.column_store.proofs.Common.{◌≡◌, ℕ, zero, suc, ◌-◌, ◌<◌, ℤ, List, [], ◌∷◌, ◌++◌, length, get_or, set, take, option_map, refl, sym, ap, ◌∙◌, arith, swap_remove, word_at, slice_get, Some, Stamp, Cell, update_at, cell_of, cells_of, stamp_of, changed_cell, swap_removed}
 use Rattle.column_store.proofs.Swapped.{swap_removed-is, length-swap_removed}
 
 -- as many cells as words

@@ -1,9 +1,5 @@
 -- A copy of a table: the same kinds and entities, and the same columns, which are the copy's alone.
-use Rattle.std.proofs.Common.{◌≡◌, ℕ, List, map, sym, ap, subst, ◌∙◌}
-use Rattle.model.specs.declared.entities.Entity.{Entity}
-use Rattle.column_store.specs.Table.{ColumnSlotValue, owned}
-use Rattle.column_store.specs.Table.Standing.{Owned}
-use Rattle.column_store.specs.Inside.{standing_at, seen_slot, table_of, IsTable}
+use Rattle.column_store.proofs.Common.{◌≡◌, ℕ, List, map, sym, ap, subst, ◌∙◌, Entity, ColumnSlotValue, owned, Owned, standing_at, seen_slot, table_of, IsTable}
 use Rattle.column_store.proofs.Kept.{kept-columns}
 use Rattle.column_store.proofs.Tables.{owned_columns, table-owned}
 

@@ -1,19 +1,6 @@
 -- What a row more or less leaves.
-use Rattle.std.proofs.Common.{◌≡◌, ℕ, ◌<◌, Bool, true, false, cond, ◌&&◌, List, [], ◌∷◌, ◌++◌, length, map, option_map, Option, Some, None, Result, Ok, Err, IfOk, refl, sym, ap, ap₂, subst, ◌∙◌, arith}
-use Rattle.std.proofs.lemmas.List.{length-map}
-use Rattle.std.specs.Prelude.{IsNone, slice_get}
-use Rattle.std.specs.List.{list_all, AllByRecursion}
-use Rattle.model.specs.Lists.{update_at}
-use Rattle.model.specs.declared.entities.Entity.{Entity}
+use Rattle.column_store.proofs.Common.{◌≡◌, ℕ, ◌<◌, Bool, true, false, cond, ◌&&◌, List, [], ◌∷◌, ◌++◌, length, map, option_map, Option, Some, None, Result, Ok, Err, IfOk, refl, sym, ap, ap₂, subst, ◌∙◌, arith, length-map, IsNone, slice_get, list_all, AllByRecursion, update_at, Entity, StampedValue, stamped_number, stamped_cell, is_same, IsNowhere, swap_removed, Standing, ColumnSlotValue, TableRow, TableValue, is_home, is_owned, row_of, new_row, renewed_row, Owned, Shared, Away, standing_in, kind_in, tail_in, cell_at, swap_out_in, push_all, replace_all, rows_of, table_of, HasRoom, IsOfLength, IsAtHome, IsOwned, HoldsRow, OwnsRow, AllTake, AllRenew, IsTable}
 use Rattle.std.proofs.lemmas.Bool.{and_parts as both}
-use Rattle.column_store.specs.declared.stamped.StampedValue.{StampedValue}
-use Rattle.column_store.specs.Cells.{stamped_number, stamped_cell}
-use Rattle.column_store.specs.Order.{is_same}
-use Rattle.column_store.specs.Places.{IsNowhere}
-use Rattle.column_store.specs.Swapped.{swap_removed}
-use Rattle.column_store.specs.Table.{Standing, ColumnSlotValue, TableRow, TableValue, is_home, is_owned, row_of, new_row, renewed_row}
-use Rattle.column_store.specs.Table.Standing.{Owned, Shared, Away}
-use Rattle.column_store.specs.Inside.{standing_in, kind_in, tail_in, cell_at, swap_out_in, push_all, replace_all, rows_of, table_of, HasRoom, IsOfLength, IsAtHome, IsOwned, HoldsRow, OwnsRow, AllTake, AllRenew, IsTable}
 use Rattle.column_store.proofs.Tables.{length-of_kinds, get-rows_of, table-push, table-swap, table-renew}
 use Rattle.column_store.proofs.Kept.{all_take, all_renew, kept-push, kept-swap, kept-replace}
 

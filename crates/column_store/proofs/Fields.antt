@@ -1,15 +1,6 @@
 -- Fields that are written in components, from one on.
-use Rattle.std.proofs.Common.{◌≡◌, ◌≢◌, ◌⊎◌, inl, inr, ℕ, zero, suc, ◌+◌, ◌-◌, ◌<◌, ◌≤◌, min, ℤ, pos, List, [], ◌∷◌, length, get_or, set, map, drop, option_map, Some, slice_get, refl, sym, ap, ap₂, ◌∙◌, arith}
-use Rattle.std.proofs.lemmas.Bool.{cases_eq}
-use Rattle.std.proofs.lemmas.List.{drop_all, drop_more, get_or-set_same, get_or-set_other}
-use Rattle.kinds.specs.Components.{word_at}
-use Rattle.change_ticks.specs.declared.stamp.Stamp.{Stamp}
-use Rattle.model.specs.Lists.{update_at}
-use Rattle.model.specs.state.State.{Cell}
-use Rattle.model.proofs.lists.Lists.{length-update_at}
-use Rattle.column_store.specs.Column.{ColumnCells, cell_of, cells_of}
-use Rattle.column_store.specs.Words.{ColumnWords}
-use Rattle.column_store.specs.Fields.{words_with, field_cell, with_field_cells, with_field_words, changed_stamp, changed_stamps}
+use Rattle.column_store.proofs.Common.{◌≡◌, ◌≢◌, ◌⊎◌, inl, inr, ℕ, zero, suc, ◌+◌, ◌-◌, ◌<◌, ◌≤◌, min, ℤ, pos, List, [], ◌∷◌, length, get_or, set, map, drop, option_map, Some, slice_get, refl, sym, ap, ap₂, ◌∙◌, arith, cases_eq, get_or-set_same, get_or-set_other, word_at, Stamp, update_at, Cell, length-update_at, ColumnCells, cell_of, cells_of, ColumnWords, words_with, field_cell, with_field_cells, with_field_words, changed_stamp, changed_stamps}
+use Rattle.std.proofs.lemmas.List.{drop_all, drop_more}
 
 -- ---- one value more
 

@@ -1,22 +1,10 @@
 -- Where a column is in the inside of a table.
-use Rattle.std.proofs.Common.{◌≡◌, ◌⊎◌, inl, inr, ⊎_elim, ℕ, ◌<◌, ◌==◌, true, List, length, get_or, set, Result, Ok, Err, OnOk, OnErr, Option, Some, option_map, refl, sym, ap, subst, ◌∙◌, arith, map, MatchOption, None}
-use Rattle.std.specs.List.{position}
+use Rattle.column_store.proofs.Common.{◌≡◌, ◌⊎◌, inl, inr, ⊎_elim, ℕ, ◌<◌, ◌==◌, true, List, length, get_or, set, Result, Ok, Err, OnOk, OnErr, Option, Some, option_map, refl, sym, ap, subst, ◌∙◌, arith, map, MatchOption, None, position, map-set, Kind, kind_number, each-at, Entity, ColumnCells, IsPlace, standing_at, seen_column, seen_slot, table_of, IsOfLength, IsTable, IsKindPlace, IsKindPlaced, IsNoKind, Standing, ColumnSlotValue, is_home, lent, shared, IsHome, IsAlike, Shared, Away, get-there}
 use Rattle.std.proofs.Math.Seq.{map-set_same}
-use Rattle.std.proofs.lemmas.List.{map-set}
-use Rattle.kinds.specs.declared.kind.Kind.{Kind}
-use Rattle.kinds.specs.Kind.{kind_number}
-use Rattle.model.proofs.lists.Each.{each-at}
-use Rattle.model.specs.declared.entities.Entity.{Entity}
-use Rattle.column_store.specs.Column.{ColumnCells}
-use Rattle.column_store.specs.Places.{IsPlace}
-use Rattle.column_store.specs.Inside.{standing_at, seen_column, seen_slot, table_of, IsOfLength, IsTable, IsKindPlace, IsKindPlaced, IsNoKind}
-use Rattle.column_store.specs.Table.{Standing, ColumnSlotValue, is_home, lent, shared, IsHome, IsAlike}
-use Rattle.column_store.specs.Table.Standing.{Shared, Away}
 use Rattle.column_store.proofs.Lists.{set-changed, set-same}
 use Rattle.column_store.proofs.Rows.{place_from_position, nowhere_from_position}
-use Rattle.column_store.proofs.Tables.{place-within, length-of_kinds, cell_in-place, cell_in-no_kind, table-seen, standing-place, standing-nowhere, kind_cells-place, table-move, table-home, table-alike}
+use Rattle.column_store.proofs.Tables.{place-within, length-of_kinds, cell_in-no_kind, table-seen, standing-place, standing-nowhere, kind_cells-place, table-move, table-home, table-alike}
 use Rattle.column_store.proofs.Kept.{kind-place, kept-move, kept-home, kept-columns}
-use Rattle.model.proofs.lists.Places.{get-there}
 
 -- ---- a column
 
@@ -27,8 +15,6 @@ kind-found ns k j of es ps h =
     let within : j < length ps = omega arith in
     record {
       within = within;
-      has_rows = λ i d l. (let long : length (get_or ps j d).column.cells ≡ length es = each-at (IsOfLength (length es)) ps j d within h.of_length in omega arith);
-      cell = λ i d l. cell_in-place ns es ps k i j (get_or ps j d) l of same (get-there ps j d within);
       standing = λ d. standing-place ns es ps k j (get_or ps j d) of same (get-there ps j d within);
       of_kind = λ d. kind-place k j ns ps (get_or ps j d) of h.of_kinds (get-there ps j d within);
       cells = λ d. sym (kind_cells-place ns es ps k j (get_or ps j d) of same (get-there ps j d within)

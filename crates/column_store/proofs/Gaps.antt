@@ -1,8 +1,7 @@
 -- Lists with a gap: what is before it, and what is behind it, the last one first.
-use Rattle.std.proofs.Common.{◌≡◌, ℕ, zero, suc, ◌+◌, ◌-◌, ◌<◌, ◌≤◌, List, [], ◌∷◌, ◌++◌, length, reverse, set, get_or, refl, sym, ap, ◌∙◌, arith}
-use Rattle.std.specs.List.{insert}
+use Rattle.column_store.proofs.Common.{◌≡◌, ℕ, zero, suc, ◌+◌, ◌-◌, ◌<◌, ◌≤◌, List, [], ◌∷◌, ◌++◌, length, reverse, set, get_or, refl, sym, ap, ◌∙◌, arith, insert, length_push, get_or_append_left}
 use Rattle.std.proofs.Math.Seq.{get_or-append_right}
-use Rattle.std.proofs.lemmas.List.{append_assoc, reverse-append, length-append, length-reverse, length_push, get_or_append_left, get_or-reverse}
+use Rattle.std.proofs.lemmas.List.{append_assoc, reverse-append, length-append, length-reverse, get_or-reverse}
 
 turned : (fs bs : List ℕ) (b : ℕ) → fs ++ reverse (b ∷ bs) ≡ (fs ++ reverse bs) ++ b ∷ []
 turned fs bs b = ap (λ ys. fs ++ ys) (reverse-append (b ∷ []) bs) ∙ sym (append_assoc fs (reverse bs) (b ∷ []))

@@ -1,24 +1,6 @@
 -- What every table keeps.
-use Rattle.std.proofs.Common.{◌≡◌, ℕ, zero, suc, ◌+◌, ◌-◌, ◌<◌, ◌≤◌, ◌==◌, ◌⊎◌, inl, inr, List, [], ◌∷◌, ◌++◌, length, map, Some, refl, sym, ap, ap₂, subst, ◌∙◌, arith}
-use Rattle.std.proofs.lemmas.Bool.{cases_eq}
-use Rattle.std.proofs.lemmas.Bool.Decides.{nat_tests}
-use Rattle.std.proofs.lemmas.List.{length_push}
-use Rattle.std.proofs.lemmas.Simd.{map-map}
-use Rattle.std.specs.List.{AllByRecursion}
-use Rattle.std.specs.Prelude.{slice_get}
-use Rattle.model.specs.Lists.{update_at}
-use Rattle.model.proofs.lists.Lists.{length-update_at}
-use Rattle.model.proofs.lists.Each.{each-weaker, each-map}
-use Rattle.model.specs.state.State.{Cell}
-use Rattle.model.specs.declared.entities.Entity.{Entity}
-use Rattle.column_store.specs.declared.stamped.StampedValue.{StampedValue}
-use Rattle.column_store.specs.Cells.{stamped_number, stamped_cell}
-use Rattle.column_store.specs.Column.{ColumnCells}
-use Rattle.column_store.specs.Order.{is_same, AreApart}
-use Rattle.column_store.specs.Places.{IsPlace, IsNowhere}
-use Rattle.column_store.specs.Swapped.{swap_removed}
-use Rattle.column_store.specs.Table.{Standing, ColumnSlotValue}
-use Rattle.column_store.specs.Inside.{kind_in, standing_at, owned_slot, seen_column, seen_slot, swap_out_in, push_all, replace_all, HasRoom, IsOfLength, IsOwned, AllTake, AllRenew, AreRoomier, IsTable}
+use Rattle.column_store.proofs.Common.{◌≡◌, ℕ, zero, suc, ◌+◌, ◌-◌, ◌<◌, ◌≤◌, ◌==◌, ◌⊎◌, inl, inr, List, [], ◌∷◌, ◌++◌, length, map, Some, refl, sym, ap, ap₂, subst, ◌∙◌, arith, cases_eq, nat_tests, length_push, map-map, AllByRecursion, slice_get, update_at, length-update_at, each-weaker, Cell, Entity, StampedValue, stamped_number, stamped_cell, ColumnCells, is_same, AreApart, IsPlace, IsNowhere, swap_removed, Standing, ColumnSlotValue, kind_in, standing_at, owned_slot, seen_column, seen_slot, swap_out_in, push_all, replace_all, HasRoom, IsOfLength, IsOwned, AllTake, AllRenew, AreRoomier, IsTable}
+use Rattle.model.proofs.lists.Each.{each-map}
 use Rattle.column_store.proofs.Lists.{map-update_at_same, each-updated}
 use Rattle.column_store.proofs.Swapped.{length-swap_removed, get-swap_here, get-swap_other}
 use Rattle.column_store.proofs.Apart.{get_within, get_push, elsewhere}

@@ -1,3 +1,4 @@
+pub mod Common
 pub mod Swapped
 pub mod Lists
 pub mod Cells
@@ -8,7 +9,7 @@ pub mod Rising
 pub mod Numbers
 pub mod Apart
 pub mod Rows
-pub mod Columns
+pub mod ColumnRows
 pub mod Tables
 pub mod Kept
 pub mod Found

@@ -1,16 +1,6 @@
 -- What the inside of a list of entities is after one more or one less.
-use Rattle.std.proofs.Common.{◌≡◌, ℕ, ◌+◌, ◌-◌, ◌<◌, ◌≤◌, Bool, true, false, not, cond, ◌==◌, List, [], ◌∷◌, ◌++◌, length, take, set, get_or, None, Option, sym, ap, subst, ◌∙◌, arith}
-use Rattle.std.specs.Prelude.{Vec}
-use Rattle.std.specs.declared.alloc.Global.{Global}
-use Rattle.std.specs.declared.sync.Arc.{Arc}
-use Rattle.std.proofs.lemmas.Bool.{eqb-true}
-use Rattle.std.proofs.lemmas.List.{length_push, take-set-le}
-use Rattle.model.specs.declared.entities.Entity.{Entity}
-use Rattle.column_store.specs.EntityList.{GapListValue, row_limit, IsCopy, IsKept, IsEntityList}
-use Rattle.column_store.specs.Order.{is_same, AreApart, AreRising}
-use Rattle.column_store.specs.Places.{IsNowhere}
-use Rattle.column_store.specs.RowOrder.{IsOrderOf}
-use Rattle.column_store.specs.Swapped.{swap_removed}
+use Rattle.column_store.proofs.Common.{◌≡◌, ℕ, ◌+◌, ◌-◌, ◌<◌, ◌≤◌, Bool, true, false, not, cond, ◌==◌, List, [], ◌∷◌, ◌++◌, length, take, set, get_or, None, Option, sym, ap, subst, ◌∙◌, arith, Vec, Global, Arc, eqb-true, length_push, Entity, GapListValue, row_limit, IsCopy, IsKept, IsEntityList, is_same, AreApart, AreRising, IsNowhere, IsOrderOf, swap_removed}
+use Rattle.std.proofs.lemmas.List.{take-set-le}
 use Rattle.column_store.proofs.Kept.{apart-push, apart-swap}
 use Rattle.column_store.proofs.Rising.{rising-take}
 use Rattle.column_store.proofs.Swapped.{length-swap_removed}

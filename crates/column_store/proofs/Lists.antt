@@ -1,11 +1,7 @@
 -- Lists that are edited.
-use Rattle.std.proofs.Common.{◌≡◌, ℕ, zero, suc, ◌<◌, List, [], ◌∷◌, length, get_or, set, map, option_map, Some, refl, sym, ap, ◌∙◌, arith}
-use Rattle.std.specs.List.{insert, remove, AllByRecursion}
-use Rattle.std.specs.Prelude.{slice_get}
-use Rattle.std.proofs.lemmas.List.{map-set, map-append, take-map, drop-map}
-use Rattle.model.specs.Lists.{update_at}
+use Rattle.column_store.proofs.Common.{◌≡◌, ℕ, zero, suc, ◌<◌, List, [], ◌∷◌, length, get_or, set, map, option_map, Some, refl, sym, ap, ◌∙◌, arith, insert, remove, AllByRecursion, slice_get, map-set, take-map, update_at, get-there}
+use Rattle.std.proofs.lemmas.List.{map-append, drop-map}
 use Rattle.column_store.proofs.Swapped.{map-swap_out}
-use Rattle.model.proofs.lists.Places.{get-there}
 
 -- an insertion
 pub map-insert : {A B : Type 0} (f : A → B) (xs : List A) (i : ℕ) (y : A) → map f (insert xs i y) ≡ insert (map f xs) i (f y)
@@ -30,12 +26,6 @@ pub map-update_at_same : {A B : Type 0} (g : A → B) (f : A → A) → ((x : A)
 map-update_at_same g f h j [] = refl
 map-update_at_same g f h zero (x ∷ xs) = ap (λ y. y ∷ map g xs) (h x)
 map-update_at_same g f h (suc j) (x ∷ xs) = ap (λ ys. g x ∷ ys) (map-update_at_same g f h j xs)
-
--- two functions that agree change alike
-pub update_at-same : {A : Type 0} (f g : A → A) → ((x : A) → f x ≡ g x) → (j : ℕ) (xs : List A) → update_at j f xs ≡ update_at j g xs
-update_at-same f g h j [] = refl
-update_at-same f g h zero (x ∷ xs) = ap (λ y. y ∷ xs) (h x)
-update_at-same f g h (suc j) (x ∷ xs) = ap (λ ys. x ∷ ys) (update_at-same f g h j xs)
 
 -- a write of what a function makes of the element
 pub set-update_at : {A : Type 0} (f : A → A) (xs : List A) (i : ℕ) (x y : A) → slice_get xs i ≡ Some x → y ≡ f x → set xs i y ≡ update_at i f xs

@@ -1,15 +1,6 @@
 -- A table without rows.
-use Rattle.std.proofs.Common.{◌≡◌, ℕ, zero, suc, ◌+◌, ◌<◌, ◌==◌, Bool, true, false, cond, ◌||◌, List, [], ◌∷◌, map, filter, refl, sym, ap, ap₂, subst, ◌∙◌, arith}
-use Rattle.std.specs.List.{list_any, AllByRecursion}
-use Rattle.kinds.specs.declared.kind.Kind.{Kind}
-use Rattle.kinds.specs.Kind.{kind_count, kind_number, numbers_from}
-use Rattle.model.specs.Lists.{has}
-use Rattle.model.specs.declared.entities.Entity.{Entity}
-use Rattle.column_store.specs.Kinds.{in_order, AreBelow}
-use Rattle.column_store.specs.Order.{AreApart}
-use Rattle.column_store.specs.Table.{ColumnSlotValue, empty_table}
-use Rattle.column_store.specs.Table.Standing.{Owned}
-use Rattle.column_store.specs.Inside.{standing_in, kind_in, empty_column, table_of, IsOfLength, IsTable}
+use Rattle.column_store.proofs.Common.{◌≡◌, ℕ, zero, suc, ◌+◌, ◌<◌, ◌==◌, Bool, true, false, cond, ◌||◌, List, [], ◌∷◌, map, filter, refl, sym, ap, ap₂, subst, ◌∙◌, arith, list_any, AllByRecursion, Kind, kind_count, kind_number, has, Entity, in_order, AreBelow, AreApart, ColumnSlotValue, empty_table, Owned, standing_in, kind_in, empty_column, table_of, IsOfLength, IsTable}
+use Rattle.kinds.specs.Kind.{numbers_from}
 
 -- ---- kinds in order
 

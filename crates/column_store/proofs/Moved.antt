@@ -1,12 +1,6 @@
 -- A slot whose column is taken for the table alone, and then leaves.
-use Rattle.std.proofs.Common.{◌≡◌, true, sym, ap, ◌∙◌}
-use Rattle.column_store.specs.declared.column_slot.Spot.{Spot}
+use Rattle.column_store.proofs.Common.{◌≡◌, true, sym, ap, ◌∙◌, Spot, ColumnCells, slot_of, ColumnSlotValue, is_home, Owned, Away, seen_slot, standing_at, owned_slot}
 use Rattle.column_store.specs.declared.column_slot.Spot.TheVariants as spot
-use Rattle.column_store.specs.Column.{ColumnCells}
-use Rattle.column_store.specs.Spots.{slot_of}
-use Rattle.column_store.specs.Table.{ColumnSlotValue, is_home}
-use Rattle.column_store.specs.Table.Standing.{Owned, Away}
-use Rattle.column_store.specs.Inside.{seen_slot, standing_at, owned_slot}
 
 -- one that is the table's alone is at home
 pub home_by_owned : (old own : ColumnSlotValue) → seen_slot own ≡ standing_at Owned (seen_slot old) → is_home own.standing ≡ true

@@ -1,23 +1,11 @@
 -- The numbers of rows in rising ids, where one is put in or taken out.
-use Rattle.std.proofs.Common.{◌≡◌, ℕ, zero, suc, ◌+◌, ◌-◌, ◌<◌, ◌≤◌, Bool, true, false, ◌==◌, ◌||◌, ◌&&◌, nat_lt, ◌⊎◌, inl, inr, List, [], ◌∷◌, ◌++◌, length, get_or, set, map, option_map, Some, refl, sym, ap, ap₂, subst, ◌∙◌, add-zero, zero-add, add-one, arith}
-use Rattle.std.proofs.lemmas.Bool.{cases_eq, eq-eqb, eqb-true, or_left, or_right}
-use Rattle.std.proofs.lemmas.Bool.Decides.{nat_tests}
-use Rattle.std.proofs.lemmas.List.{length-map, length-set, length_push, same_lists, get_or_default, get_or_append_left, get_or_push, get_or-set_same, get_or-set_other}
-use Rattle.std.specs.List.{insert, remove, AllByRecursion}
-use Rattle.std.specs.List.Sorted.{IsPartitionedBy, IsPartitionPoint}
-use Rattle.model.specs.Lists.{has}
-use Rattle.model.specs.declared.entities.Entity.{Entity}
+use Rattle.column_store.proofs.Common.{◌≡◌, ℕ, zero, suc, ◌+◌, ◌-◌, ◌<◌, ◌≤◌, Bool, true, false, ◌==◌, ◌||◌, ◌&&◌, nat_lt, ◌⊎◌, inl, inr, List, [], ◌∷◌, ◌++◌, length, get_or, set, map, option_map, Some, refl, sym, ap, ap₂, subst, ◌∙◌, add-zero, zero-add, add-one, arith, cases_eq, eq-eqb, eqb-true, or_left, or_right, nat_tests, length-map, length-set, length_push, same_lists, get_or_default, get_or_append_left, get_or-set_same, get_or-set_other, insert, remove, AllByRecursion, IsPartitionedBy, IsPartitionPoint, has, Entity, each-at, each-weaker, is_before, is_same, AreRising, IsNowhere, IsGap, entity_at, numbers_from, IsOrderOf, swap_removed, get-there}
+use Rattle.std.proofs.lemmas.List.{get_or_push}
 use Rattle.model.proofs.agreement.Agreement.{get_or-map}
-use Rattle.model.proofs.lists.Each.{each-at, each-weaker}
-use Rattle.column_store.specs.Order.{is_before, is_same, AreRising}
-use Rattle.column_store.specs.Places.{IsNowhere, IsGap}
-use Rattle.column_store.specs.RowOrder.{entity_at, numbers_from, IsOrderOf}
-use Rattle.column_store.specs.Swapped.{swap_removed}
 use Rattle.column_store.proofs.Lists.{get-map, map-insert, map-remove, each-insert}
 use Rattle.column_store.proofs.Ordered.{not_before_itself, rising-apart}
 use Rattle.column_store.proofs.Rising.{parted_before, rising-insert, rising-remove}
 use Rattle.column_store.proofs.Swapped.{length-swap_removed, get_or-swap_here, get_or-swap_other}
-use Rattle.model.proofs.lists.Places.{get-there}
 
 -- ---- elements
 
@@ -199,9 +187,6 @@ rows_apart es rows i j d h li lj same =
 
 module _ (es : List Entity) (rows : List ℕ) (row place moved : ℕ) (h : IsOrderOf es rows) (within : row < length es)
     (at : (place < length rows) × (get_or rows place 0 ≡ row)) (last : (moved < length rows) × (get_or rows moved 0 ≡ length es - 1)) where
-  renumbered : List ℕ
-  renumbered = set rows moved row
-
   -- a number that stays: it is within, and of the same entity
   stays : (j : ℕ) → j < length rows → (j ≡ place → ⊥) → (j ≡ moved) ⊎ (j ≡ moved → ⊥) →
       (get_or (set rows moved row) j 0 + 1 < length es) × (entity_at (swap_removed es row) (get_or (set rows moved row) j 0) ≡ entity_at es (get_or rows j 0))

@@ -1,12 +1,5 @@
 -- The order of rows whose ids rise as they stand.
-use Rattle.std.proofs.Common.{◌≡◌, ℕ, zero, suc, ◌+◌, ◌<◌, ◌≤◌, true, ◌==◌, ◌||◌, ◌&&◌, nat_lt, refl, sym, ap, subst, ◌∙◌, List, [], ◌∷◌, length, map, get_or, slice_get, Some, inl, inr, arith}
-use Rattle.std.proofs.lemmas.Bool.{eq-eqb, cases_eq, or_left, or_right}
-use Rattle.std.proofs.lemmas.Bool.Decides.{nat_tests}
-use Rattle.std.specs.List.{AllByRecursion}
-use Rattle.model.specs.Lists.{has}
-use Rattle.model.specs.declared.entities.Entity.{Entity}
-use Rattle.column_store.specs.Order.{is_before, AreRising, AreApart}
-use Rattle.column_store.specs.RowOrder.{numbers_from, entity_at, IsOrderOf}
+use Rattle.column_store.proofs.Common.{◌≡◌, ℕ, zero, suc, ◌+◌, ◌<◌, ◌≤◌, true, ◌==◌, ◌||◌, ◌&&◌, nat_lt, refl, sym, ap, subst, ◌∙◌, List, [], ◌∷◌, length, map, get_or, slice_get, Some, inl, inr, arith, eq-eqb, cases_eq, or_left, or_right, nat_tests, AllByRecursion, has, Entity, is_before, AreRising, AreApart, numbers_from, entity_at, IsOrderOf}
 
 -- ---- ids that rise are apart
 

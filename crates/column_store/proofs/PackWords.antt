@@ -1,10 +1,5 @@
 -- What is at a place of a column of packed components.
-use Rattle.std.proofs.Common.{◌≡◌, ℕ, suc, zero, ◌<◌, ℤ, List, [], ◌∷◌, length, get_or, map, Some, sym, ap, subst, ◌∙◌, arith}
-use Rattle.std.specs.Prelude.{slice_get}
-use Rattle.std.proofs.lemmas.List.{length-map}
-use Rattle.column_store.specs.declared.column.Packs.{Packs}
-use Rattle.column_store.specs.Held.{words_in}
-use Rattle.column_store.specs.Words.{ColumnWords}
+use Rattle.column_store.proofs.Common.{◌≡◌, ℕ, suc, zero, ◌<◌, ℤ, List, [], ◌∷◌, length, get_or, map, Some, sym, ap, subst, ◌∙◌, arith, slice_get, length-map, Packs, words_in, ColumnWords}
 
 -- what a function makes of an element that was read
 got-mapped : {A B : Type 0} (f : A → B) (xs : List A) (i : ℕ) (x : A) (r : B) → i < length xs → x ≡ get_or xs i x → r ≡ f x → slice_get (map f xs) i ≡ Some r

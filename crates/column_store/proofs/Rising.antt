@@ -1,12 +1,5 @@
 -- The order of ids, and places among ids that rise.
-use Rattle.std.proofs.Common.{◌≡◌, ℕ, zero, suc, ◌-◌, ◌<◌, ◌≤◌, ap, ◌∙◌, true, false, ◌||◌, ◌&&◌, ◌==◌, nat_lt, List, [], ◌∷◌, ◌++◌, length, get_or, take, arith}
-use Rattle.std.proofs.lemmas.Bool.Decides.{nat_tests}
-use Rattle.std.specs.List.{insert, remove, AllByRecursion}
-use Rattle.std.specs.List.Sorted.{IsPartitionedBy}
-use Rattle.model.specs.declared.entities.Entity.{Entity}
-use Rattle.model.proofs.lists.Each.{each-at, each-weaker}
-use Rattle.column_store.specs.Order.{is_before, is_same, AreRising}
-use Rattle.column_store.specs.Places.{IsNowhere, IsGap}
+use Rattle.column_store.proofs.Common.{◌≡◌, ℕ, zero, suc, ◌-◌, ◌<◌, ◌≤◌, ap, ◌∙◌, true, false, ◌||◌, ◌&&◌, ◌==◌, nat_lt, List, [], ◌∷◌, ◌++◌, length, get_or, take, arith, nat_tests, insert, remove, AllByRecursion, IsPartitionedBy, Entity, each-at, each-weaker, is_before, is_same, AreRising, IsNowhere, IsGap}
 use Rattle.column_store.proofs.Lists.{each-insert, each-remove}
 use Rattle.model.proofs.lists.Places.{each-push}
 

@@ -1,13 +1,5 @@
 -- The room of a table, and what is left of it.
-use Rattle.std.proofs.Common.{◌≡◌, ℕ, ◌+◌, ◌-◌, ◌<◌, ◌≤◌, List, [], ◌∷◌, ◌++◌, length, map, sym, ap, subst, ◌∙◌, arith}
-use Rattle.std.proofs.lemmas.List.{length_push}
-use Rattle.std.specs.List.{AllByRecursion}
-use Rattle.model.specs.state.State.{Cell}
-use Rattle.model.specs.declared.entities.Entity.{Entity}
-use Rattle.column_store.specs.EntityList.{EntityListValue}
-use Rattle.column_store.specs.Swapped.{swap_removed}
-use Rattle.column_store.specs.Table.{ColumnSlotValue}
-use Rattle.column_store.specs.Inside.{swap_out_in, push_all, replace_all, HasRoom, AreRoomier, IsTable, IsTableWithRoom, IsTableWithSpare}
+use Rattle.column_store.proofs.Common.{◌≡◌, ℕ, ◌+◌, ◌-◌, ◌<◌, ◌≤◌, List, [], ◌∷◌, ◌++◌, length, map, sym, ap, subst, ◌∙◌, arith, length_push, AllByRecursion, Cell, Entity, EntityListValue, swap_removed, ColumnSlotValue, swap_out_in, push_all, replace_all, HasRoom, AreRoomier, IsTable, IsTableWithRoom, IsTableWithSpare}
 use Rattle.column_store.proofs.Swapped.{length-swap_removed}
 use Rattle.column_store.proofs.Kept.{fewer_rooms, rooms-push, rooms-swap, rooms-replace, rooms-roomier}
 

@@ -1,14 +1,5 @@
 -- Rows and kinds by their places.
-use Rattle.std.proofs.Common.{◌≡◌, ℕ, zero, suc, ◌+◌, ◌<◌, ◌≤◌, ◌==◌, nat_lt, cond, Bool, true, false, not, List, [], ◌∷◌, length, get_or, map, Some, None, refl, ap, ◌∙◌, arith}
-use Rattle.std.proofs.lemmas.Bool.Decides.{nat_tests}
-use Rattle.std.specs.List.{position, position_or_len}
-use Rattle.std.specs.Prelude.{slice_get}
-use Rattle.model.specs.Lists.{update_at}
-use Rattle.model.specs.declared.entities.Entity.{Entity}
-use Rattle.column_store.specs.Order.{is_same}
-use Rattle.column_store.specs.Kinds.{at_kind, update_kind}
-use Rattle.column_store.specs.Places.{IsPlace, IsNowhere}
-use Rattle.column_store.specs.Table.{TableRow, row_of}
+use Rattle.column_store.proofs.Common.{◌≡◌, ℕ, zero, suc, ◌+◌, ◌<◌, ◌≤◌, ◌==◌, nat_lt, cond, Bool, true, false, not, List, [], ◌∷◌, length, get_or, map, Some, None, refl, ap, ◌∙◌, arith, nat_tests, position, position_or_len, slice_get, update_at, Entity, is_same, at_kind, update_kind, IsPlace, IsNowhere, TableRow, row_of}
 
 -- ---- the row of an entity, by its place
 

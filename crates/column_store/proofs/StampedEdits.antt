@@ -1,11 +1,5 @@
 -- A column with its stamps: what is at a place, and an edit of both.
-use Rattle.std.proofs.Common.{◌≡◌, ℕ, ◌<◌, min, ℤ, List, length, get_or, Some, sym, ap, ap₂, subst, ◌∙◌}
-use Rattle.std.specs.List.{swap_remove}
-use Rattle.std.specs.Prelude.{slice_get}
-use Rattle.change_ticks.specs.declared.stamp.Stamp.{Stamp}
-use Rattle.column_store.specs.Column.{ColumnCells, cell_of, cells_of}
-use Rattle.column_store.specs.Words.{ColumnWords}
-use Rattle.column_store.specs.Swapped.{swap_removed}
+use Rattle.column_store.proofs.Common.{◌≡◌, ℕ, ◌<◌, min, ℤ, List, length, get_or, Some, sym, ap, ap₂, subst, ◌∙◌, swap_remove, slice_get, Stamp, ColumnCells, cell_of, cells_of, ColumnWords, swap_removed}
 use Rattle.column_store.proofs.Cells.{length-cells_of, get-cells_of, get-there, cells_of-swap_removed, length-removed}
 
 -- a place of a cell is that of a stamp

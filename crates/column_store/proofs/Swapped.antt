@@ -1,10 +1,6 @@
 -- Lists from which an element is removed by moving the last one into its place.
-use Rattle.std.proofs.Common.{◌≡◌, ℕ, zero, suc, ◌-◌, ◌+◌, ◌<◌, List, [], ◌∷◌, length, get_or, set, map, take, Some, refl, sym, ap, ◌∙◌, arith}
-use Rattle.std.specs.Prelude.{slice_get}
-use Rattle.std.specs.List.{swap_remove}
-use Rattle.std.proofs.lemmas.List.{map-set, take-map, length-map, length-set, length-take, get_or-take, get_or-set_same, get_or-set_other, get_or_default}
-use Rattle.column_store.specs.Swapped.{swap_removed}
-use Rattle.model.proofs.lists.Places.{get-there}
+use Rattle.column_store.proofs.Common.{◌≡◌, ℕ, zero, suc, ◌-◌, ◌+◌, ◌<◌, List, [], ◌∷◌, length, get_or, set, map, take, Some, refl, sym, ap, ◌∙◌, arith, slice_get, swap_remove, map-set, take-map, length-map, length-set, get_or-set_same, get_or-set_other, get_or_default, swap_removed, get-there}
+use Rattle.std.proofs.lemmas.List.{length-take, get_or-take}
 
 -- the word of std, whatever its default
 pub swap_removed-is : {A : Type 0} (xs : List A) (i : ℕ) (d : A) → i < length xs → swap_remove xs i d ≡ swap_removed xs i

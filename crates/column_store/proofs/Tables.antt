@@ -1,22 +1,8 @@
 -- What a table's calls leave, from the row and the place of the column.
-use Rattle.std.proofs.Common.{◌≡◌, ℕ, zero, suc, ◌<◌, ◌==◌, Bool, List, [], ◌∷◌, ◌++◌, length, get_or, map, option_map, option_and_then, Option, Some, None, refl, sym, ap, ap₂, ◌∙◌, arith}
-use Rattle.std.specs.List.{AllByRecursion}
-use Rattle.std.specs.Prelude.{slice_get}
-use Rattle.std.proofs.lemmas.List.{length-map}
-use Rattle.std.proofs.lemmas.Simd.{map-map}
-use Rattle.model.specs.Lists.{update_at}
-use Rattle.model.specs.state.State.{Cell}
-use Rattle.model.specs.declared.entities.Entity.{Entity}
-use Rattle.column_store.specs.Column.{ColumnCells}
-use Rattle.column_store.specs.Places.{IsPlace, IsNowhere}
-use Rattle.column_store.specs.Swapped.{swap_removed}
-use Rattle.column_store.specs.Table.{Standing, ColumnSlotValue, TableRow, TableValue, is_home, cell_of_kind, filled_rows, cell_in_row, standing_of, kind_cells, moved_to, owned, homed, IsAlike}
-use Rattle.column_store.specs.Table.Standing.{Owned}
-use Rattle.column_store.specs.Inside.{standing_in, kind_in, standing_at, owned_slot, seen_column, seen_slot, cell_at, tail_in, swap_out_in, push_all, replace_all, rows_of, table_of, IsOfLength, AreAlike}
+use Rattle.column_store.proofs.Common.{◌≡◌, ℕ, zero, suc, ◌<◌, ◌==◌, Bool, List, [], ◌∷◌, ◌++◌, length, get_or, map, option_map, option_and_then, Option, Some, None, refl, sym, ap, ap₂, ◌∙◌, arith, AllByRecursion, slice_get, length-map, map-map, update_at, Cell, Entity, ColumnCells, IsPlace, IsNowhere, swap_removed, Standing, ColumnSlotValue, TableRow, TableValue, is_home, cell_of_kind, filled_rows, cell_in_row, standing_of, kind_cells, moved_to, owned, homed, IsAlike, Owned, standing_in, kind_in, standing_at, owned_slot, seen_column, seen_slot, cell_at, tail_in, swap_out_in, push_all, replace_all, rows_of, table_of, IsOfLength, AreAlike, get-there}
 use Rattle.column_store.proofs.Lists.{map-update_at, map-update_at_same, get-map}
 use Rattle.column_store.proofs.Rows.{at_kind-place, at_kind-nowhere, update_kind-place}
-use Rattle.column_store.proofs.Columns.{cell_of_column, filled, get_or-rows_of, length-rows_of, rows_of-columns, cells-rows_of, rows_of-home, rows_of-push, rows_of-swap, rows_of-replace}
-use Rattle.model.proofs.lists.Places.{get-there}
+use Rattle.column_store.proofs.ColumnRows.{cell_of_column, filled, get_or-rows_of, length-rows_of, rows_of-columns, cells-rows_of, rows_of-home, rows_of-push, rows_of-swap, rows_of-replace}
 
 pub place-within : {A : Type 0} (test : A → Bool) (xs : List A) (i : ℕ) → IsPlace test xs i → i < length xs
 place-within test [] i p = absurd p
@@ -42,14 +28,6 @@ get-rows_of es ps i e l =
     get-there (rows_of es ps) i d (omega arith) ∙ ap (λ r. Some r) (get_or-rows_of es ps i e d l)
 
 module _ (ns : List ℕ) (es : List Entity) (ps : List ColumnSlotValue) (k : ℕ) where
-  pub cell_in-place : (i j : ℕ) (p : ColumnSlotValue) → i < length es → IsPlace (λ n. n == k) ns j → length ns ≡ length ps → slice_get ps j ≡ Some p →
-      cell_in_row (table_of ns es ps) i k ≡ cell_at i p
-  cell_in-place i j p at of l h =
-      let e : Entity = record { index = 0; generation = 0 } in
-      ap (option_and_then (cell_of_kind ns k)) (get-rows_of es ps i e at)
-      ∙ ap (option_and_then (λ cell. cell)) (at_kind-place k ns (map (cell_at i) ps) j of (l ∙ sym (length-map ps (cell_at i)))
-      ∙ get-map (cell_at i) ps j ∙ ap (option_map (cell_at i)) h)
-
   pub cell_in-no_kind : (i : ℕ) → IsNowhere (λ n. n == k) ns → cell_in_row (table_of ns es ps) i k ≡ None
   cell_in-no_kind i h = go (slice_get (rows_of es ps) i)
     where

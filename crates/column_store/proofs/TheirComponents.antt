@@ -1,15 +1,6 @@
 -- The components of a row.
-use Rattle.std.proofs.Common.{◌≡◌, ℕ, ◌<◌, ◌==◌, Bool, true, false, cond, ℤ, List, [], ◌∷◌, Option, Some, None, option_map, option_and_then, refl, sym, ap, ap₂, subst, ◌∙◌, arith}
-use Rattle.std.proofs.lemmas.Bool.Decides.{nat_tests}
-use Rattle.std.proofs.lemmas.Bool.{eqb-true}
-use Rattle.std.specs.List.{AllByRecursion}
-use Rattle.model.specs.Lists.{with_at}
-use Rattle.model.specs.state.State.{Cell, Component}
-use Rattle.model.specs.state.Rows.{cell_at, IsRising}
-use Rattle.model.specs.shown.Overlay.{row_after, cell_after}
-use Rattle.column_store.specs.Cells.{changed_cell}
-use Rattle.column_store.specs.Kinds.{AreBelow, at_kind, update_kind}
-use Rattle.column_store.specs.Components.{components_in, ComponentsRise, CellsAreTheirs, WritesAreTheirs}
+use Rattle.column_store.proofs.Common.{◌≡◌, ℕ, ◌<◌, ◌==◌, Bool, true, false, cond, ℤ, List, [], ◌∷◌, Option, Some, None, option_map, option_and_then, refl, sym, ap, ap₂, subst, ◌∙◌, arith, nat_tests, eqb-true, AllByRecursion, with_at, Cell, Component, IsRising, row_after, cell_after, changed_cell, AreBelow, at_kind, update_kind, components_in, ComponentsRise, CellsAreTheirs, WritesAreTheirs}
+use Rattle.model.specs.state.Rows.{cell_at}
 
 pub not_same : (n kind : ℕ) → kind < n → (n == kind) ≡ false
 not_same n kind h = grind (arith, nat_tests)

@@ -1,11 +1,5 @@
 -- Each component of a column has as many fields as its kind.
-use Rattle.std.proofs.Common.{◌≡◌, ℕ, ℤ, List, [], ◌∷◌, length, map, refl, subst}
-use Rattle.std.specs.List.{AllByRecursion}
-use Rattle.change_ticks.specs.declared.stamp.Stamp.{Stamp}
-use Rattle.column_store.specs.declared.column.Packs.{Packs}
-use Rattle.column_store.specs.declared.column.Packs.TheVariants.{Marks, Amounts, Pairs}
-use Rattle.column_store.specs.Column.{cells_of}
-use Rattle.column_store.specs.Held.{words_in, width_in}
+use Rattle.column_store.proofs.Common.{◌≡◌, ℕ, ℤ, List, [], ◌∷◌, length, map, refl, subst, AllByRecursion, Stamp, Packs, Marks, Amounts, Pairs, cells_of, words_in, width_in}
 
 wide : {A : Type 0} (f : A → List ℤ) (n : ℕ) → ((x : A) → length (f x) ≡ n) → (xs : List A) → AllByRecursion (λ ws. length ws ≡ n) (map f xs)
 wide f n h [] = tt

@@ -27,7 +27,7 @@ abbrev pub IsCopy : List Entity → Option (Arc (Vec Entity Global) Global) → 
 IsCopy entities None = Unit {0}
 IsCopy entities (Some copy) = (arc_value copy).items ≡ entities
 
--- the order as it is kept: rows in turn, or by these numbers
+-- the order as it is kept: rows as they stand, or by these numbers
 abbrev pub IsKept : List Entity → Bool → List ℕ → Type 0
 IsKept entities false numbers = AreRising entities
 IsKept entities true numbers = IsOrderOf entities numbers

@@ -175,10 +175,8 @@ table_with_room kinds entities columns room = record (table_of kinds entities.li
 -- the place of a kind's column: what the table has there at a row, and what it is where the column stands otherwise or another one comes
 pub record IsKindPlace (kinds : List ℕ) (entities : List Entity) (columns : List ColumnSlotValue) (kind column : ℕ) : Type 0 where
   pub within : column < length columns
-  pub has_rows : (row : ℕ) (d : ColumnSlotValue) → row < length entities → row < length (get_or columns column d).column.cells
   pub standing : (d : ColumnSlotValue) → standing_of (table_of kinds entities columns) kind ≡ Some (get_or columns column d).standing
   pub of_kind : (d : ColumnSlotValue) → (get_or columns column d).column.kind ≡ kind
-  pub cell : (row : ℕ) (d : ColumnSlotValue) → row < length entities → cell_in_row (table_of kinds entities columns) row kind ≡ cell_at row (get_or columns column d)
   pub cells : (d : ColumnSlotValue) → map (λ cell. Some cell) (get_or columns column d).column.cells ≡ kind_cells (table_of kinds entities columns) kind
   pub moves : (s : Standing) → table_of kinds entities (update_at column (standing_at s) columns) ≡ moved_to s (table_of kinds entities columns) kind
   pub moves_table : (s : Standing) → IsTable kinds entities (update_at column (standing_at s) columns)

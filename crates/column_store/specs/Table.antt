@@ -93,6 +93,16 @@ standing_of t kind = at_kind t.kinds kind t.standings
 abbrev pub kind_cells : TableValue → ℕ → List (Option Cell)
 kind_cells t kind = map (cell_of_kind t.kinds kind) t.rows
 
+-- the table has no such kind
+pub record IsWithout (t : TableValue) (kind : ℕ) : Type 0 where
+  pub standing : standing_of t kind ≡ None
+  pub cell : (row : ℕ) → cell_in_row t row kind ≡ None
+
+-- a column is that of a kind
+pub record IsColumnOf (t : TableValue) (kind : ℕ) (column : ColumnCells) : Type 0 where
+  pub kind_is : column.kind ≡ kind
+  pub cells_are : map (λ cell. Some cell) column.cells ≡ kind_cells t kind
+
 -- the table whose column of a kind stands otherwise. Where columns change place, room is made anew
 abbrev pub moved_to : Standing → TableValue → ℕ → TableValue
 moved_to standing t kind = record {

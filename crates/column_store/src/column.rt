@@ -1,15 +1,15 @@
 // A column without stamps: the components of one kind, packed by their shape.
 
-ghost use Rattle.std.specs.Prelude.{◌≡◌, ◌+◌, ◌<◌, ◌≤◌, ◌++◌, ◌∷◌, ℕ, pos, [], option_map, Some, length, get_or, slice_get, slice_set, IfOk, OnOk};
 ghost use Rattle.std.specs.List.{AllByRecursion};
-ghost use Rattle.kinds.specs.Kind.{kind_number};
+ghost use Rattle.std.specs.Prelude.{◌≡◌, ◌+◌, ◌<◌, ◌≤◌, ◌++◌, ◌∷◌, ℕ, pos, [], option_map, Some, length, get_or, slice_get, slice_set, IfOk, OnOk};
 ghost use Rattle.kinds.specs.Components.{widths, word_at};
+ghost use Rattle.kinds.specs.Kind.{kind_number};
 ghost use Rattle.kinds.specs.Value.{value_number, value_words};
 ghost use Rattle.column_store.specs.Fields.{with_field_words};
 ghost use Rattle.column_store.specs.Swapped.{swap_removed};
 
 use crate::packed::{Amount, Mark, Packed, Pair};
-use crate::packs::{copied, push_in, read_in, reserve_in, set_in, swap_remove_in, write_in};
+use crate::packs::{push_in, read_in, set_in, swap_remove_in, write_in};
 use kinds::{Fields, Kind, Shape, Value};
 use std::alloc::{AllocError, Global};
 use std::marker::Model;
@@ -82,9 +82,9 @@ impl Column {
     {
         let kind = self.kind;
         let packs = match &self.packs {
-            Packs::Marks(items) => Packs::Marks(copied(alloc, items)?),
-            Packs::Amounts(items) => Packs::Amounts(copied(alloc, items)?),
-            Packs::Pairs(items) => Packs::Pairs(copied(alloc, items)?),
+            Packs::Marks(items) => Packs::Marks(Vec::from_slice(alloc, items)?),
+            Packs::Amounts(items) => Packs::Amounts(Vec::from_slice(alloc, items)?),
+            Packs::Pairs(items) => Packs::Pairs(Vec::from_slice(alloc, items)?),
         };
         Ok(Column { kind, packs })
     }
@@ -120,15 +120,6 @@ impl Column {
             Packs::Amounts(items) => items[place].word(field),
             Packs::Pairs(items) => items[place].word(field),
         }
-    }
-
-    // The component at a place.
-    pub(crate) fn at(&self, place: usize) -> Value
-        requires { place < length self.now.words }
-        ensures number { value_number result ≡ self.now.kind }
-        ensures words { slice_get self.now.words place ≡ Some (value_words result) }
-    {
-        Value::of(self.kind, self.fields(place).as_slice())
     }
 
     // Replaces the component at a place by one of the kind.
@@ -209,9 +200,9 @@ impl Column {
         ensures ok { OnOk result (length self.old.words + further ≤ self.new.room) }
     {
         match &mut self.packs {
-            Packs::Marks(items) => reserve_in(items, further),
-            Packs::Amounts(items) => reserve_in(items, further),
-            Packs::Pairs(items) => reserve_in(items, further),
+            Packs::Marks(items) => items.reserve(further),
+            Packs::Amounts(items) => items.reserve(further),
+            Packs::Pairs(items) => items.reserve(further),
         }
     }
 }

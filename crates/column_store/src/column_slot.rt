@@ -1,12 +1,12 @@
 // The slots of columns in a table, and what is done to all columns at a row.
 
-ghost use Rattle.std.specs.Prelude.{◌≡◌, ◌⊎◌, ◌+◌, true, length, map, Some, IfOk, IfErr, OnOk, OnErr};
-ghost use Rattle.std.specs.List.{AllByRecursion};
 ghost use Rattle.std.specs.Arc.{arc_value};
+ghost use Rattle.std.specs.List.{AllByRecursion};
+ghost use Rattle.std.specs.Prelude.{◌≡◌, ◌⊎◌, ◌+◌, true, length, map, Some, IfOk, IfErr, OnOk, OnErr};
 ghost use Rattle.column_store.specs.Cells.{stamped_number, stamped_cell};
+ghost use Rattle.column_store.specs.Inside.{cell_at, kind_in, standing_at, seen_slot, owned_slot, empty_column, push_in, swap_out_in, replace_in, push_all, replace_all, HasRoom, HoldsRow, OwnsRow, IsOfLength, Takes, AllTake, Renews, AllRenew, IsAtHome, IsOwned, IsRoomier, AreRoomier, AreAlike};
 ghost use Rattle.column_store.specs.Table.{is_home};
 ghost use Rattle.column_store.specs.Table.Standing.{Owned, Shared, Away};
-ghost use Rattle.column_store.specs.Inside.{cell_at, kind_in, standing_at, seen_slot, owned_slot, empty_column, push_in, swap_out_in, replace_in, push_all, replace_all, HasRoom, HoldsRow, OwnsRow, IsOfLength, Takes, AllTake, Renews, AllRenew, IsAtHome, IsOwned, IsRoomier, AreRoomier, AreAlike};
 
 use crate::stamped::{Components, StampedColumn, StampedValue};
 use kinds::Kind;

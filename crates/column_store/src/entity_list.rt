@@ -1,7 +1,7 @@
 // The entities of a table, their order, and the copy of them that readers elsewhere have a part in.
 
-ghost use Rattle.std.specs.Prelude.{◌≡◌, ◌+◌, ◌<◌, ◌≤◌, ◌++◌, ◌∷◌, [], length, IfOk, OnOk};
 ghost use Rattle.std.specs.Arc.{arc_value};
+ghost use Rattle.std.specs.Prelude.{◌≡◌, ◌+◌, ◌<◌, ◌≤◌, ◌++◌, ◌∷◌, [], length, IfOk, OnOk};
 ghost use Rattle.column_store.specs.Order.{is_same, AreApart};
 ghost use Rattle.column_store.specs.Places.{IsNowhere};
 ghost use Rattle.column_store.specs.RowOrder.{OrdersRows};
@@ -16,7 +16,7 @@ use std::marker::Model;
 use std::mem;
 use std::sync::Arc;
 
-// The entities of a table, row by row, and beside them the order in which their ids rise: the rows in turn, or their numbers. To be read
+// The entities of a table, row by row, and beside them the order in which their ids rise: the rows as they stand, or their numbers. To be read
 // elsewhere too the entities are copied once, for all readers together, and the copy is kept until rows change: so rows change without
 // allocating, whoever still reads. The room of a copy that nobody reads any more is used for the next one.
 #[derive(Drop)]

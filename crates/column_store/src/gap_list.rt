@@ -1,8 +1,8 @@
 // A list with a gap: numbers are put in and taken out at the gap, so that an edit costs what lies between its place and that of the edit
 // before. Edits at rising places, or at falling ones, cost no more together than the list is long.
 
-ghost use Rattle.std.specs.Prelude.{◌≡◌, ◌+◌, ◌<◌, ◌≤◌, ◌^◌, ◌++◌, ℕ, [], length, reverse, get_or, set, vec_len, vec_capacity, IfOk, OnOk};
 ghost use Rattle.std.specs.List.{insert, remove};
+ghost use Rattle.std.specs.Prelude.{◌≡◌, ◌+◌, ◌<◌, ◌≤◌, ◌^◌, ◌++◌, ℕ, [], length, reverse, get_or, set, vec_len, vec_capacity, IfOk, OnOk};
 ghost use Rattle.column_store.specs.RowOrder.{numbers_from, rows_in};
 
 use crate::row_order::{RowOrder, number_at};
@@ -117,12 +117,18 @@ impl GapList {
         self.front.len() + self.back.len()
     }
 
+    // The count of numbers fits.
+    fn prove_count(&self)
+        ensures { length self.now.items < 2 ^ 64 }
+    {
+        self.len();
+    }
+
     // The place of the gap, near which the next edit mostly is.
     pub(crate) fn gap(&self) -> usize
         ensures { result ≤ length self.now.items }
     {
-        // Proves that places fit.
-        let _count = self.len();
+        self.prove_count();
         self.front.len()
     }
 
@@ -202,7 +208,7 @@ impl GapList {
         ensures { self.new ≡ record self.old { items = remove self.old.items place } }
     {
         move_gap(&mut self.front, &mut self.back, place + 1);
-        let _number = self.front.pop();
+        self.front.pop();
     }
 }
 

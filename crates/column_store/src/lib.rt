@@ -3,13 +3,13 @@
 
 mod column;
 mod column_slot;
+mod columns;
 mod entity_list;
 mod gap_list;
 pub mod laws;
 mod order;
 mod packed;
 mod packs;
-mod parts;
 mod row_numbers;
 pub mod row_order;
 pub mod stamped;

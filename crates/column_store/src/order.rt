@@ -1,6 +1,6 @@
 // The order of entities, and places in lists.
 
-ghost use Rattle.std.specs.Prelude.{◌≡◌, ◌==◌, position};
+ghost use Rattle.std.specs.Prelude.{◌≡◌, ◌==◌, ◌<◌, ◌^◌, length, position};
 ghost use Rattle.kinds.specs.Kind.{kind_number};
 ghost use Rattle.column_store.specs.Order.{is_before};
 
@@ -19,4 +19,11 @@ pub(crate) fn column_in(kinds: &[Kind], number: u32) -> Option<usize>
     ensures { result ≡ position (λ kind. kind_number kind == number) kinds.now }
 {
     kinds.iter().position(|kind| kind.number() == number)
+}
+
+// The length of a list fits, and so do its places.
+pub(crate) fn prove_len<T>(list: &[T])
+    ensures { length list.now < 2 ^ 64 }
+{
+    list.len();
 }

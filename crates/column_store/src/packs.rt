@@ -1,21 +1,14 @@
 // Lists of packed components, and what is done to one: written once for every shape.
 
-ghost use Rattle.std.specs.Prelude.{◌≡◌, ◌+◌, ◌<◌, ◌≤◌, ◌++◌, ◌∷◌, ℕ, pos, [], map, option_map, Some, length, get_or, slice_get, slice_set, vec_capacity, IfOk, OnOk};
+ghost use Rattle.std.specs.Prelude.{◌≡◌, ◌+◌, ◌<◌, ◌≤◌, ◌++◌, ◌∷◌, ℕ, pos, [], map, option_map, Some, length, get_or, slice_get, slice_set, vec_capacity};
 ghost use Rattle.kinds.specs.Components.{widths, word_at};
 ghost use Rattle.kinds.specs.Value.{value_number, value_words};
 ghost use Rattle.column_store.specs.Fields.{with_field_words};
 ghost use Rattle.column_store.specs.Swapped.{swap_removed};
 
+use crate::order::prove_len;
 use crate::packed::Packed;
 use kinds::Value;
-use std::alloc::{AllocError, Global};
-
-// The same list.
-pub(crate) fn copied<P: Packed>(alloc: Global, items: &[P]) -> Result<Vec<P>, AllocError>
-    ensures { IfOk result (λ list. list.items ≡ items.now) }
-{
-    items.iter().copied().collect(alloc)
-}
 
 // Replaces the component at a place.
 #[tactic(auto, using(crate::proofs::Lists::edits))]
@@ -37,8 +30,7 @@ pub(crate) fn read_in<P: Packed>(items: &[P], from: usize, field: usize, values:
         → option_map (λ ws. word_at ws field) (slice_get (map P.words items.now) (from + i))
         ≡ Some (get_or values.new i (pos 0)) }
 {
-    // Proves that places fit.
-    let _count = items.len();
+    prove_len(items);
     for i in 0..values.len() {
         values[i] = items[from + i].word(field);
     }
@@ -51,8 +43,7 @@ pub(crate) fn write_in<P: Packed>(items: &mut Vec<P>, from: usize, field: usize,
         ≡ with_field_words P.WIDTH field from values.now (map P.words items.old.items) }
     ensures room { vec_capacity items.new ≡ vec_capacity items.old }
 {
-    // Proves that places fit.
-    let _count = items.len();
+    prove_len(items);
     for i in 0..values.len() {
         let place = from + i;
         items[place] = items[place].with_word(field, values[i]);
@@ -79,13 +70,4 @@ pub(crate) fn swap_remove_in<P: Packed>(items: &mut Vec<P>, place: usize)
     ensures room { vec_capacity items.new ≡ vec_capacity items.old }
 {
     items.swap_remove(place);
-}
-
-// Makes room for so many further components.
-pub(crate) fn reserve_in<P: Packed>(items: &mut Vec<P>, further: usize) -> Result<(), AllocError>
-    ensures same { items.new.items ≡ items.old.items }
-    ensures room { vec_capacity items.old ≤ vec_capacity items.new }
-    ensures ok { OnOk result (length items.new.items + further ≤ vec_capacity items.new) }
-{
-    items.reserve(further)
 }

@@ -1,18 +1,19 @@
 // A column with the stamps of its components.
 
-ghost use Rattle.std.specs.Prelude.{◌≡◌, ◌+◌, ◌<◌, ◌≤◌, ◌++◌, ◌∷◌, ℕ, pos, [], Some, length, get_or, slice_get, option_map, vec_capacity, IfOk, OnOk};
 ghost use Rattle.std.specs.List.{AllByRecursion};
+ghost use Rattle.std.specs.Prelude.{◌≡◌, ◌+◌, ◌<◌, ◌≤◌, ◌++◌, ◌∷◌, ℕ, pos, [], Some, length, get_or, slice_get, option_map, vec_capacity, IfOk, OnOk};
+ghost use Rattle.kinds.specs.Components.{widths, word_at};
 ghost use Rattle.kinds.specs.Kind.{kind_number};
 ghost use Rattle.kinds.specs.Value.{value_number, value_words};
-ghost use Rattle.kinds.specs.Components.{widths, word_at};
 ghost use Rattle.model.specs.Lists.{update_at};
 ghost use Rattle.column_store.specs.Cells.{stamped_number, stamped_cell, stamp_of, changed_cell};
 ghost use Rattle.column_store.specs.Fields.{with_field_cells, changed_stamps};
 ghost use Rattle.column_store.specs.Swapped.{swap_removed};
 
 use crate::column::Column;
+use crate::order::prove_len;
 use change_ticks::{Stamp, Tick};
-use kinds::{Fields, Kind, Value};
+use kinds::{Component, Fields, Kind, Value};
 use smallvec::SmallVec;
 use std::alloc::{AllocError, Global};
 use std::default::MadeWith;
@@ -132,7 +133,7 @@ impl StampedColumn {
         ensures cell { slice_get self.now.cells place ≡ Some (stamped_cell result) }
     {
         StampedValue {
-            value: self.column.at(place),
+            value: Value::of(self.kind(), self.column.fields(place).as_slice()),
             stamp: self.stamps[place],
         }
     }
@@ -144,6 +145,16 @@ impl StampedColumn {
         ensures width { length result ≡ widths self.now.kind }
     {
         self.column.fields(place)
+    }
+
+    /// The component at a place, of the type of the column's kind.
+    pub fn get<C: Component>(&self, place: usize) -> C
+        requires kind { self.now.kind ≡ C.NUMBER }
+        requires within { place < length self.now.cells }
+        ensures { option_map (λ c. c.words) (slice_get self.now.cells place)
+            ≡ Some (C.words result) }
+    {
+        C::from_words(self.column.fields(place).as_slice())
     }
 
     /// The word of a field of the component at a place, 0 where the kind has no such field.
@@ -247,8 +258,7 @@ fn mark_changed(stamps: &mut Vec<Stamp>, from: usize, count: usize, tick: Tick)
     ensures stamps { stamps.new.items ≡ changed_stamps tick from count stamps.old.items }
     ensures room { vec_capacity stamps.new ≡ vec_capacity stamps.old }
 {
-    // Proves that places fit.
-    let _count = stamps.len();
+    prove_len(stamps);
     for i in 0..count {
         stamps[from + i].changed = tick;
     }

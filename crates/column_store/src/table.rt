@@ -1,7 +1,8 @@
 // Tables.
 
-ghost use Rattle.std.specs.Prelude.{◌≡◌, ◌⊎◌, ◌+◌, ◌-◌, ◌<◌, ◌≤◌, ◌++◌, ◌∷◌, [], length, map, option_map, Some, IsNone, IfSome, IfOk, OnOk, OnErr, IsTrue, slice_get};
+ghost use Rattle.std.specs.Arc.{arc_value};
 ghost use Rattle.std.specs.List.{list_all};
+ghost use Rattle.std.specs.Prelude.{◌≡◌, ◌⊎◌, ◌+◌, ◌-◌, ◌<◌, ◌≤◌, ◌++◌, ◌∷◌, [], length, map, option_map, Some, IsNone, IfOk, MatchOption, OnOk, OnErr, IsTrue, slice_get};
 ghost use Rattle.kinds.specs.Kind.{kind_number};
 ghost use Rattle.model.specs.Lists.{update_at};
 ghost use Rattle.column_store.specs.Cells.{stamped_number, stamped_cell};
@@ -9,15 +10,13 @@ ghost use Rattle.column_store.specs.Kinds.{in_order, AreBelow};
 ghost use Rattle.column_store.specs.Order.{AreApart};
 ghost use Rattle.column_store.specs.RowOrder.{OrdersRows};
 ghost use Rattle.column_store.specs.Swapped.{swap_removed};
-ghost use Rattle.std.specs.Arc.{arc_value};
-ghost use Rattle.column_store.specs.Table.{Standing, empty_table, is_home, is_owned, is_not_away, row_of, new_row, renewed_row, cell_in_row, standing_of, kind_cells, lent, shared, owned, homed, IsHome, IsAlike};
+ghost use Rattle.column_store.specs.Table.{Standing, empty_table, is_home, is_owned, is_not_away, row_of, new_row, renewed_row, standing_of, kind_cells, lent, shared, owned, homed, IsAlike, IsColumnOf, IsHome, IsWithout};
 
 use crate::column_slot::{
-    ColumnSlot, copied_slots, empty_columns, own_each, push_row, read_row, replace_row,
-    reserve_rows, swap_remove_row,
+    ColumnSlot, own_each, push_row, read_row, replace_row, reserve_rows, swap_remove_row,
 };
+use crate::columns::Columns;
 use crate::entity_list::EntityList;
-use crate::parts::{among, copied_kinds, kind_place, number_place};
 use crate::row_order::RowOrder;
 use crate::stamped::{Components, StampedColumn, StampedValue};
 use entity_table::Entity;
@@ -31,9 +30,8 @@ use std::sync::Arc;
 /// their order in rising ids. A column can leave and come home, and be read elsewhere too. To contracts one that is
 /// away has the cells with which it left.
 pub struct Table {
-    kinds: Vec<Kind>,
+    columns: Columns,
     entities: EntityList,
-    columns: Vec<ColumnSlot>,
     // So many further rows come in without allocating: room is made in steps.
     spare: usize,
     // So many of them were asked for.
@@ -44,9 +42,8 @@ pub struct Table {
 impl Drop for Table {
     fn drop(self) {
         let Table {
-            kinds: _,
-            entities: _,
             columns: _,
+            entities: _,
             spare: _,
             room: _,
         } = self;
@@ -71,11 +68,11 @@ impl Model for Table {
 
     ghost Value = { TableValue };
 
-    ghost view = { λ t. table_with_room (map kind_number t.kinds.items) t.entities t.columns.items
-        t.room };
+    ghost view = { λ t. table_with_room (map kind_number t.columns.kinds.items) t.entities
+        t.columns.slots.items t.room };
 
-    ghost invariant = { λ t. IsTableWithSpare (map kind_number t.kinds.items) t.entities
-        t.columns.items t.spare t.room };
+    ghost invariant = { λ t. IsTableWithSpare (map kind_number t.columns.kinds.items) t.entities
+        t.columns.slots.items t.spare t.room };
 }
 
 impl Table {
@@ -84,12 +81,10 @@ impl Table {
         ensures { IfOk result (λ table. table
             ≡ empty_table (in_order (map kind_number kinds.now))) }
     {
-        let kinds = among(alloc, Kind::every(), kinds)?;
-        let columns = empty_columns(alloc, &kinds)?;
+        let columns = Columns::new(alloc, kinds)?;
         Ok(Table {
-            kinds,
-            entities: EntityList::new(alloc),
             columns,
+            entities: EntityList::new(alloc),
             spare: 0,
             room: 0,
         })
@@ -102,13 +97,11 @@ impl Table {
         requires { IsTrue (list_all is_home self.now.standings) }
         ensures { IfOk result (λ copy. copy ≡ owned self.now) }
     {
-        let kinds = copied_kinds(alloc, &self.kinds)?;
+        let columns = self.columns.copy(alloc)?;
         let entities = self.entities.copy(alloc)?;
-        let columns = copied_slots(alloc, &self.columns)?;
         Ok(Table {
-            kinds,
-            entities,
             columns,
+            entities,
             spare: 0,
             room: 0,
         })
@@ -119,7 +112,7 @@ impl Table {
         ensures kinds { map kind_number result.now ≡ self.now.kinds }
         ensures rising { AreBelow self.now.kinds }
     {
-        self.kinds.as_slice()
+        self.columns.kinds.as_slice()
     }
 
     /// The entities, row by row.
@@ -128,13 +121,6 @@ impl Table {
         ensures apart { AreApart result.now }
     {
         self.entities.as_slice()
-    }
-
-    /// No entity is there twice.
-    pub fn prove_apart(&self)
-        ensures { AreApart (map (λ row. row.entity) self.now.rows) }
-    {
-        self.entities();
     }
 
     /// The order of the rows, in which ids rise. It is kept: nothing is computed.
@@ -160,19 +146,6 @@ impl Table {
         self.entities().len()
     }
 
-    /// The component of the kind with this number at a row, where the kind is the table's.
-    pub fn find(&self, row: usize, number: u32) -> Option<StampedValue>
-        requires within { row < length self.now.rows }
-        requires home { IsTrue (is_not_away (standing_of self.now number)) }
-        ensures cell { option_map stamped_cell result ≡ cell_in_row self.now row number }
-        ensures number { IfSome result (λ s. stamped_number s ≡ number) }
-    {
-        match number_place(&self.kinds, number) {
-            None => None,
-            Some(column) => Some(self.columns[column].seen().at(row)),
-        }
-    }
-
     /// Makes room for `further` more rows. Where an allocation fails the table stays as it was.
     pub fn reserve(&mut self, further: usize) -> Result<(), AllocError>
         requires { IsTrue (list_all is_owned self.old.standings) }
@@ -189,7 +162,7 @@ impl Table {
         let count = self.entities.as_slice().len();
         let spare = in_steps(count, room);
         self.entities.reserve(spare)?;
-        reserve_rows(&mut self.columns, count, spare)?;
+        reserve_rows(&mut self.columns.slots, count, spare)?;
         self.spare = spare;
         self.room = room;
         Ok(())
@@ -217,7 +190,7 @@ impl Table {
             } }
     {
         self.entities.push(e);
-        push_row(&mut self.columns, components);
+        push_row(&mut self.columns.slots, components);
         self.spare -= 1;
         self.room -= 1;
     }
@@ -230,7 +203,7 @@ impl Table {
         ensures { self.new
             ≡ record self.old { rows = update_at row (renewed_row components.now) self.old.rows } }
     {
-        replace_row(&mut self.columns, row, components);
+        replace_row(&mut self.columns.slots, row, components);
     }
 
     /// Removes a row, and moves the last one into its place. It allocates nothing.
@@ -240,7 +213,7 @@ impl Table {
         ensures { self.new ≡ record self.old { rows = swap_removed self.old.rows row } }
     {
         self.entities.swap_remove(row);
-        swap_remove_row(&mut self.columns, row);
+        swap_remove_row(&mut self.columns.slots, row);
     }
 
     /// Lists the components at a row, in the order of the kinds, in the room of a list. A list of few allocates nothing.
@@ -251,20 +224,19 @@ impl Table {
             ≡ Some (map (λ s. Some (stamped_cell s)) components.new.items)) }
         ensures kinds { OnOk result (map stamped_number components.new.items ≡ self.now.kinds) }
     {
-        read_row(&self.columns, row, components)
+        read_row(&self.columns.slots, row, components)
     }
 
-    /// The column of a kind, which is at home.
-    pub fn column(&self, kind: Kind) -> &StampedColumn
-        requires { IsHome (standing_of self.now (kind_number kind)) }
-        ensures kind { result.now.kind ≡ kind_number kind }
-        ensures cells { map (λ cell. Some cell) result.now.cells
-            ≡ kind_cells self.now (kind_number kind) }
+    /// The column of a kind, where the table has one. It is at home.
+    pub fn column(&self, kind: Kind) -> Option<&StampedColumn>
+        requires { IsTrue (is_not_away (standing_of self.now (kind_number kind))) }
+        ensures { MatchOption result (IsWithout self.now (kind_number kind)) (λ column. IsColumnOf
+            self.now (kind_number kind) column.now) }
     {
-        let Some(place) = kind_place(&self.kinds, kind) else {
-            unreachable!();
-        };
-        self.columns[place].seen()
+        match self.columns.place(kind) {
+            None => None,
+            Some(place) => Some(self.columns.slots[place].seen()),
+        }
     }
 
     /// Takes a column that is at home out of the table until it comes home. One that is still read elsewhere is copied for it. After an
@@ -277,10 +249,10 @@ impl Table {
         ensures away { OnOk result (self.new ≡ lent self.old (kind_number kind)) }
         ensures err { OnErr result (self.new ≡ self.old) }
     {
-        let Some(place) = kind_place(&self.kinds, kind) else {
+        let Some(place) = self.columns.place(kind) else {
             unreachable!();
         };
-        let column = self.columns[place].lend(alloc)?;
+        let column = self.columns.slots[place].lend(alloc)?;
         self.spare = 0;
         self.room = 0;
         Ok(column)
@@ -302,12 +274,12 @@ impl Table {
             ⊎ (self.new ≡ shared self.old (kind_number kind))) }
         ensures alike { IsAlike self.old self.new }
     {
-        let Some(place) = kind_place(&self.kinds, kind) else {
+        let Some(place) = self.columns.place(kind) else {
             unreachable!();
         };
         self.spare = 0;
         self.room = 0;
-        self.columns[place].share(alloc)
+        self.columns.slots[place].share(alloc)
     }
 
     /// Takes every column for the table alone. One that is still read elsewhere is copied for it. Where an allocation fails some may be the
@@ -319,7 +291,7 @@ impl Table {
     {
         self.spare = 0;
         self.room = 0;
-        own_each(&mut self.columns, alloc)
+        own_each(&mut self.columns.slots, alloc)
     }
 
     /// Puts a column that was lent back.
@@ -328,11 +300,11 @@ impl Table {
         requires same_length { length column.cells ≡ length self.old.rows }
         ensures { self.new ≡ homed self.old column }
     {
-        let Some(place) = kind_place(&self.kinds, column.kind()) else {
+        let Some(place) = self.columns.place(column.kind()) else {
             unreachable!();
         };
         self.spare = 0;
         self.room = 0;
-        self.columns[place] = ColumnSlot::of(column);
+        self.columns.slots[place] = ColumnSlot::of(column);
     }
 }

@@ -1,12 +1,13 @@
 // Columns of tables: they are read, they leave and come home, and are read elsewhere too.
 
-ghost use Rattle.std.specs.Prelude.{◌≡◌, ◌<◌, true, length, map, set, Some, IfOk, OnOk, OnErr};
 ghost use Rattle.std.specs.Arc.{arc_value};
+ghost use Rattle.std.specs.Prelude.{◌≡◌, ◌<◌, true, length, map, Some, IfOk, OnOk, OnErr};
 ghost use Rattle.kinds.specs.Kind.{kind_number};
 ghost use Rattle.model.specs.Lists.{is_there};
 ghost use Rattle.column_store.specs.Table.{standing_of, lent, homed, IsHome};
 ghost use Rattle.column_store.specs.Table.Standing.{Away};
 ghost use Rattle.archetype_store.specs.Layout.{layout_of, AreAllHome};
+ghost use Rattle.archetype_store.specs.Rows.{with_table};
 ghost use Rattle.archetype_store.specs.Tables.{table_at, cells_at, entities_at, AreAllAlike, AreOwned};
 
 use crate::entity_rows::Rows;
@@ -26,7 +27,11 @@ impl Rows {
         ensures cells { map (λ cell. Some cell) result.now.cells
             ≡ cells_at self.now.tables table (kind_number kind) }
     {
-        self.tables[table].column(kind)
+        let there = &self.tables[table];
+        let Some(column) = there.column(kind) else {
+            unreachable!();
+        };
+        column
     }
 
     // Takes the column of a kind of a table with rows, which is at home. After an error nothing has changed.
@@ -43,10 +48,7 @@ impl Rows {
         ensures cells { IfOk result (λ column. map (λ cell. Some cell) column.cells
             ≡ cells_at self.old.tables table (kind_number kind)) }
         ensures away { OnOk result (self.new
-            ≡ record self.old {
-              tables = set self.old.tables table (lent (table_at self.old.tables table)
-                  (kind_number kind));
-            }) }
+            ≡ with_table self.old table (lent (table_at self.old.tables table) (kind_number kind))) }
         ensures err { OnErr result (self.new ≡ self.old) }
     {
         let there = &mut self.tables[table];
@@ -95,9 +97,7 @@ impl Rows {
         requires away { standing_of (table_at self.old.tables table) column.kind ≡ Some Away }
         requires same_length { length column.cells ≡ length (table_at self.old.tables table).rows }
         ensures { self.new
-            ≡ record self.old {
-              tables = set self.old.tables table (homed (table_at self.old.tables table) column);
-            } }
+            ≡ with_table self.old table (homed (table_at self.old.tables table) column) }
     {
         let there = &mut self.tables[table];
         there.home(column);

@@ -93,7 +93,7 @@ impl Rows {
         ensures { self.new ≡ left self.old e }
     {
         if let Some(place) = self.place(e.index) {
-            let row = self.row_numbers[e.index as usize];
+            let row = self.number(e.index);
             let there = &mut self.tables[place.table];
             let moved = last_of(there.entities());
             there.swap_remove(row);
@@ -108,7 +108,7 @@ impl Rows {
         requires owned { AreOwned self.old.tables }
         ensures { self.new ≡ renewed self.old e table components.now }
     {
-        let row = self.row_numbers[e.index as usize];
+        let row = self.number(e.index);
         let there = &mut self.tables[table];
         there.renew(row, components);
     }

@@ -1,16 +1,14 @@
 // What is done to the components of entities: changes of several at once, and of one.
 
+ghost use Rattle.std.specs.List.{AllByRecursion};
 ghost use Rattle.std.specs.Prelude.{◌≡◌, ◌≤◌, ◌<◌, ◌↔◌, true, false, [], map, is_some, IfOk, OnOk, OnErr, IsErrOf};
 ghost use Rattle.kinds.specs.Kind.{kind_number};
-ghost use Rattle.model.specs.state.Rows.{insert_component, remove_component, row_at};
-ghost use Rattle.model.specs.state.Ids as ids;
-ghost use Rattle.model.specs.state.Commands as commands;
 ghost use Rattle.model.specs.state.Commands.{is_alive, freed, with_row};
-ghost use Rattle.archetype_store.specs.Row.{component_of};
-ghost use Rattle.std.specs.List.{AllByRecursion};
-ghost use Rattle.archetype_store.specs.Slot.{cell_of};
-ghost use Rattle.archetype_store.specs.Layout.{AreAllHome};
+ghost use Rattle.model.specs.state.Rows.{insert_component, remove_component, row_at};
 ghost use Rattle.archetype_store.specs.Changes.{changed, slot_left, AreOfOtherIndices, CanChange};
+ghost use Rattle.archetype_store.specs.Layout.{AreAllHome};
+ghost use Rattle.archetype_store.specs.Row.{component_of};
+ghost use Rattle.archetype_store.specs.Slot.{cell_of};
 ghost use Rattle.archetype_store.specs.Store.{with_slots, with_slot};
 
 use crate::change::{EntityChange, Fate};

@@ -1,14 +1,12 @@
 // Columns of a world: they are read, they leave and come home, and are read elsewhere too.
 
-ghost use Rattle.std.specs.Prelude.{◌≡◌, ◌<◌, true, false, Some, length, map, IfOk, OnOk, OnErr};
-ghost use Rattle.kinds.specs.Kind.{kind_number};
-ghost use Rattle.model.specs.state.Ids as ids;
-ghost use Rattle.model.specs.state.Commands as commands;
 ghost use Rattle.std.specs.Arc.{arc_value};
 ghost use Rattle.std.specs.List.{AllByRecursion};
-ghost use Rattle.archetype_store.specs.Slot.{column_cells};
+ghost use Rattle.std.specs.Prelude.{◌≡◌, ◌<◌, true, false, Some, length, map, IfOk, OnOk, OnErr};
+ghost use Rattle.kinds.specs.Kind.{kind_number};
 ghost use Rattle.archetype_store.specs.Layout.{archetype_at, column_home, with_home};
 ghost use Rattle.archetype_store.specs.Lending.{CanTake, CanShare, CanComeHome, AreTaken, AreShared, all_away, all_home};
+ghost use Rattle.archetype_store.specs.Slot.{column_cells};
 ghost use Rattle.archetype_store.specs.Store.{homed_in, IsPast};
 
 use crate::columns::{ColumnAt, SharedColumn, TakenColumn};

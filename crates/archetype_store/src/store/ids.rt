@@ -1,12 +1,12 @@
 // The ids of a world: granted, alive, settled and freed.
 
 ghost use Rattle.std.specs.Prelude.{◌≡◌, ◌++◌, ◌+◌, ◌≤◌, ◌<◌, ◌↔◌, ℕ, true, false, Some, length, map, is_some, All, IfSome, IfNone, IfOk, OnOk, OnErr, IsErrOf};
-ghost use Rattle.model.specs.state.Ids as ids;
-ghost use Rattle.model.specs.state.Commands as commands;
 ghost use Rattle.model.specs.state.Commands.{is_alive, spawned};
-ghost use Rattle.entity_table.specs.Ids.{slot_at, lives_at, IsGranted, AreApart, settled};
+ghost use Rattle.entity_table.specs.Ids.{slot_at, lives_at, IsGranted, settled, AreApart};
 ghost use Rattle.archetype_store.specs.Slot.{value_of_slot, bare_of};
 ghost use Rattle.archetype_store.specs.Store.{with_slots, with_slot};
+ghost use Rattle.model.specs.state.Ids as ids;
+ghost use Rattle.model.specs.state.Commands as commands;
 
 use crate::fault::GrantFault;
 use crate::slot_state::SlotState;

@@ -1,18 +1,18 @@
 // What is done to a world between runs: a new entity, a tick that is given back, and an index of a world that is built again.
 
-ghost use Rattle.std.specs.Prelude.{◌≡◌, ◌-◌, ◌↔◌, ◌∷◌, ◌++◌, false, [], length, map, IfOk, OnErr, OnOk, IsErrOf};
 ghost use Rattle.std.specs.List.{AllByRecursion};
+ghost use Rattle.std.specs.Prelude.{◌≡◌, ◌-◌, ◌↔◌, ◌∷◌, ◌++◌, false, [], length, map, IfOk, OnErr, OnOk, IsErrOf};
 ghost use Rattle.kinds.specs.Components.{widths};
-ghost use Rattle.model.specs.state.Rows.{IsRising};
-ghost use Rattle.model.specs.state.State.{most_indices};
-ghost use Rattle.model.specs.state.Shape.{IsComponent, IsSlot, IsWorld};
-ghost use Rattle.entity_table.specs.Status.{empty_slot};
-ghost use Rattle.model.specs.state.Ids as ids;
 ghost use Rattle.model.specs.sessions.Inputs.{next_id};
-ghost use Rattle.archetype_store.specs.Row.{component_of};
+ghost use Rattle.model.specs.state.Rows.{IsRising};
+ghost use Rattle.model.specs.state.Shape.{IsComponent, IsSlot, IsWorld};
+ghost use Rattle.model.specs.state.State.{most_indices};
+ghost use Rattle.entity_table.specs.Status.{empty_slot};
 ghost use Rattle.archetype_store.specs.Changes.{with_new};
 ghost use Rattle.archetype_store.specs.Layout.{AreAllHome};
+ghost use Rattle.archetype_store.specs.Row.{component_of};
 ghost use Rattle.archetype_store.specs.Store.{at_clock, with_slots};
+ghost use Rattle.model.specs.state.Ids as ids;
 
 use crate::change::{EntityChange, Fate};
 use crate::fault::GrantFault;

@@ -1,11 +1,5 @@
-use Rattle.std.proofs.Common.{◌≡◌, length, get_or, set, map, pos, sym, ap, ◌∙◌}
-use Rattle.std.proofs.lemmas.List.{get_or_default, length-set}
-use Rattle.std.proofs.lemmas.List.Quantifiers.{position-Some}
+use Rattle.archetype_store.proofs.Common.{◌≡◌, length, get_or, set, map, pos, sym, ap, ◌∙◌, get_or_default, length-set, position-Some, Position, value_number, StampedValue, component_of}
 use Rattle.smallvec.proofs.SmallVecLemmas.{items-with_items}
-use Rattle.kinds.specs.declared.kind.Kind.TheVariants.{Position}
-use Rattle.kinds.specs.Value.{value_number}
-use Rattle.column_store.specs.declared.stamped.StampedValue.{StampedValue}
-use Rattle.archetype_store.specs.Row.{component_of}
 use Rattle.archetype_store.proofs.Rows.{is_from, put-none}
 use Rattle.archetype_store.proofs.RowPlaces.{replaced_by, put_over, put_at}
 use Rattle.archetype_store.proofs.components.put_component.Goals as goal
@@ -16,8 +10,7 @@ nothing = record { value = record { kind = Position; first = pos 0; second = pos
 
 pub returns-in_ok-push-in-None : goal.returns-in_ok-push-in-None
 returns-in_ok-push-in-None c =
-    let xs = c.args.components.now.items in
-    let here = put-none c.args.tick c.args.value xs (rw (c.deref.ensures, c.number.ensures) at (sym c.place_of.ensures ∙ c.in-None.is)) in
+    let here = put-none c.args.tick c.args.value c.args.components.now.items (rw (c.deref.ensures, c.number.ensures) at (sym c.place_of.ensures ∙ c.in-None.is)) in
     rw (c.in_ok-push-in-None.ensures.ok, c.added.ensures) here
 
 pub returns-then-number : goal.returns-then-number

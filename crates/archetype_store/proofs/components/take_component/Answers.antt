@@ -1,8 +1,6 @@
-use Rattle.std.proofs.Common.{sym, ◌∙◌}
+use Rattle.archetype_store.proofs.Common.{sym, ◌∙◌, component_of, map}
 use Rattle.archetype_store.proofs.Rows.{find-none, remove-some}
 use Rattle.archetype_store.proofs.RowEdits.{absent-removed}
-use Rattle.archetype_store.specs.Row.{component_of}
-use Rattle.std.specs.Prelude.{map}
 use Rattle.archetype_store.proofs.components.take_component.Goals as goal
 
 pub returns-in-Some : goal.returns-in-Some

@@ -1,11 +1,7 @@
-use Rattle.std.proofs.Common.{ℕ, ◌≡◌, ◌<◌, ◌^◌, ◌*◌, ◌%◌, sym, subst, arith}
-use Rattle.std.specs.Prelude.{bit_or}
+use Rattle.archetype_store.proofs.Common.{ℕ, ◌≡◌, ◌<◌, ◌^◌, ◌*◌, ◌%◌, sym, subst, arith, bit_or, Kind, kind_number, set_limit}
 use Rattle.std.proofs.lemmas.Nat.{or_lt}
 use Rattle.std.proofs.Math.Pow.{pow-lt}
-use Rattle.kinds.specs.declared.kind.Kind.{Kind}
-use Rattle.kinds.specs.Kind.{kind_number}
 use Rattle.kinds.proofs.Numbers.{number_below}
-use Rattle.model.specs.state.KindSets.{set_limit}
 use Rattle.archetype_store.proofs.kind_sets.+number_of.Goals as goal
 
 -- the sum stays below the limit

@@ -1,7 +1,4 @@
-use Rattle.std.proofs.Common.{◌≡◌, ◌<◌, ◌++◌, map, take}
-use Rattle.std.specs.List.{AllByRecursion}
-use Rattle.model.specs.state.KindSets.{set_limit}
-use Rattle.archetype_store.specs.LivingSets.{first_numbers, number_seen}
+use Rattle.archetype_store.proofs.Common.{◌≡◌, ◌<◌, ◌++◌, map, take, AllByRecursion, set_limit, first_numbers, number_seen}
 use Rattle.archetype_store.proofs.kind_sets.numbers_of.Given as goal
 
 -- the numbers of the archetypes so far

@@ -1,8 +1,4 @@
-use Rattle.std.proofs.Common.{ℕ, ◌<◌, ◌++◌, [], List, map, ap, sym, ◌∙◌, subst, arith}
-use Rattle.std.specs.List.Sorted.{IsPermutation}
-use Rattle.std.proofs.lemmas.List.{take_all}
-use Rattle.model.specs.state.KindSets.{with_number, set_limit}
-use Rattle.archetype_store.specs.LivingSets.{first_numbers, number_seen}
+use Rattle.archetype_store.proofs.Common.{ℕ, ◌<◌, ◌++◌, [], List, map, ap, sym, ◌∙◌, subst, arith, IsPermutation, take_all, with_number, set_limit, first_numbers, number_seen}
 use Rattle.archetype_store.proofs.SortedSets.{numbers_added, added_more, each-moved, sorted_sets}
 use Rattle.archetype_store.proofs.kind_sets.sets_of.Goals as goal
 

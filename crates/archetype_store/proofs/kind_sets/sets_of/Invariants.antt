@@ -1,4 +1,4 @@
-use Rattle.std.proofs.Common.{◌≡◌, [], take}
+use Rattle.archetype_store.proofs.Common.{◌≡◌, [], take}
 use Rattle.archetype_store.proofs.SortedSets.{numbers_added}
 use Rattle.archetype_store.proofs.kind_sets.sets_of.Given as goal
 

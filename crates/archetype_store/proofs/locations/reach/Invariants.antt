@@ -1,6 +1,4 @@
-use Rattle.std.proofs.Common.{◌≡◌, ◌≤◌, length, ◌-◌, ℕ, suc, vec_len}
-use Rattle.archetype_store.specs.Storage.{place_of}
-use Rattle.archetype_store.specs.RowNumbers.{number_of_row}
+use Rattle.archetype_store.proofs.Common.{◌≡◌, ◌≤◌, length, ◌-◌, ℕ, suc, vec_len, place_of, number_of_row}
 use Rattle.archetype_store.proofs.locations.reach.Given as goal
 
 abbrev pub invariant-loop-numbers : goal.invariant-loop-numbers

@@ -1,7 +1,4 @@
-use Rattle.std.proofs.Common.{◌∷◌, sym, ap, subst, ◌∙◌}
-use Rattle.std.specs.List.{list_all}
-use Rattle.column_store.specs.Table.{TableValue, is_owned}
-use Rattle.archetype_store.specs.Tables.{AreAllAlike}
+use Rattle.archetype_store.proofs.Common.{◌∷◌, sym, ap, subst, ◌∙◌, list_all, TableValue, is_owned, AreAllAlike}
 use Rattle.archetype_store.proofs.ColumnStandings.{alike_self, owned_all}
 use Rattle.archetype_store.proofs.owning.+own_each.Goals as goal
 

@@ -1,21 +1,10 @@
-use Rattle.std.proofs.Common.{◌≡◌, true, [], sym, ap, subst, ◌∙◌, arith}
-use Rattle.std.specs.List.{list_all}
-use Rattle.std.proofs.lemmas.Result.{IfOk-from_err}
-use Rattle.column_store.specs.Table.{TableValue, is_home, owned}
-use Rattle.model.proofs.lists.Each.{each-at}
-use Rattle.model.proofs.lists.Turns.{mapped_next, mapped_all}
+use Rattle.archetype_store.proofs.Common.{◌≡◌, true, [], sym, ap, subst, ◌∙◌, arith, list_all, TableValue, is_home, owned, each-at, mapped_next, mapped_all}
 use Rattle.archetype_store.proofs.owning.copied_tables.Goals as goal
-
-pub returns-in_err-copies : goal.returns-in_err-copies
-returns-in_err-copies c = IfOk-from_err c.from_residual.result _ c.from_residual.ensures.0
 
 pub copy-requires : goal.copy-requires
 copy-requires c =
     let P = λ (t : TableValue). list_all is_home t.standings ≡ true in
     subst P (sym c.table-item.is) (each-at P c.args.tables.now c.loop-table.table-index c.table-item.result c.loop-table-test.true c.requires)
-
-pub returns-in_err-copy : goal.returns-in_err-copy
-returns-in_err-copy c = IfOk-from_err c.from_residual-in_err-copy.result _ c.from_residual-in_err-copy.ensures.0
 
 pub loop-table-preserved : goal.loop-table-preserved
 loop-table-preserved c = record {

@@ -1,6 +1,4 @@
-use Rattle.std.proofs.Common.{◌≡◌, ◌≤◌, length, map, take, vec_len}
-use Rattle.std.specs.Prelude.{vec_capacity}
-use Rattle.column_store.specs.Table.{owned}
+use Rattle.archetype_store.proofs.Common.{◌≡◌, ◌≤◌, length, map, take, vec_len, vec_capacity, owned}
 use Rattle.archetype_store.proofs.owning.copied_tables.Given as goal
 
 -- the tables so far are copied, and there is room for all

@@ -1,9 +1,4 @@
-use Rattle.std.proofs.Common.{map, List, sym, ap, subst, ◌∙◌}
-use Rattle.std.specs.List.{AllByRecursion}
-use Rattle.archetype_store.specs.declared.change.EntityChange.{EntityChange}
-use Rattle.archetype_store.specs.RowMoves.{change_of, IsPlanned, AreAlikeBefore}
-use Rattle.archetype_store.specs.Rows.{rows_seen}
-use Rattle.archetype_store.specs.Storage.{archetypes_of, AreAlike, HaveRows}
+use Rattle.archetype_store.proofs.Common.{map, List, sym, ap, subst, ◌∙◌, AllByRecursion, EntityChange, change_of, IsPlanned, AreAlikeBefore, rows_seen, archetypes_of, AreAlike, HaveRows}
 use Rattle.archetype_store.proofs.ColumnStandings.{owned_kept}
 use Rattle.archetype_store.proofs.PlannedTables.{planned_shapes, ready_rows}
 use Rattle.archetype_store.proofs.RowDepartures.{rows_from_before}
@@ -15,17 +10,11 @@ use Rattle.archetype_store.proofs.row_moves.change_owned.Goals as goal
 
 pub returns-in_err-moves-clause-err : goal.returns-in_err-moves-clause-err
 returns-in_err-moves-clause-err c =
-    let u = c.args.rows.now in
     let v = c.planned_all.new.rows in
-    on_err_from _ _ (planned_alike u.tables v.tables u.places v.places c.planned_all.ensures.grown c.planned_all.ensures.same)
+    on_err_from _ _ (planned_alike c.args.rows.now.tables v.tables c.args.rows.now.places v.places c.planned_all.ensures.grown c.planned_all.ensures.same)
 
 pub release_all-requires-clause-owned : goal.release_all-requires-clause-owned
-release_all-requires-clause-owned c =
-    let v = c.planned_all.new.rows in
-    let w = c.reserve_all.new.rows in
-    let p = c.planned_all.ensures in
-    let r = c.reserve_all.ensures in
-    owned_kept v.tables w.tables r.shapes (p.grown.owned c.requires.owned)
+release_all-requires-clause-owned c = owned_kept c.planned_all.new.rows.tables c.reserve_all.new.rows.tables c.reserve_all.ensures.shapes (c.planned_all.ensures.grown.owned c.requires.owned)
 
 pub release_all-requires-clause-planned : goal.release_all-requires-clause-planned
 release_all-requires-clause-planned c =
@@ -37,37 +26,24 @@ release_all-requires-clause-planned c =
 
 pub returns-then-is_err-clause-found : goal.returns-then-is_err-clause-found
 returns-then-is_err-clause-found c =
-    let v = c.planned_all.new.rows in
-    let p = c.planned_all.ensures in
-    let r = c.reserve_all.ensures in
-    found_shapes v.tables c.release_all.new.rows.tables c.planned_all.new.index (c.release_all.ensures.shapes ∙ r.shapes) p.found
+    found_shapes c.planned_all.new.rows.tables c.release_all.new.rows.tables c.planned_all.new.index (c.release_all.ensures.shapes ∙ c.reserve_all.ensures.shapes) c.planned_all.ensures.found
 
 pub returns-then-is_err-clause-owned : goal.returns-then-is_err-clause-owned
 returns-then-is_err-clause-owned c =
-    let v = c.planned_all.new.rows in
-    let p = c.planned_all.ensures in
-    let r = c.reserve_all.ensures in
-    owned_kept v.tables c.release_all.new.rows.tables (c.release_all.ensures.shapes ∙ r.shapes) (p.grown.owned c.requires.owned)
+    owned_kept c.planned_all.new.rows.tables c.release_all.new.rows.tables (c.release_all.ensures.shapes ∙ c.reserve_all.ensures.shapes) (c.planned_all.ensures.grown.owned c.requires.owned)
 
 pub returns-then-is_err-clause-err : goal.returns-then-is_err-clause-err
 returns-then-is_err-clause-err c =
     let u = c.args.rows.now in
     let v = c.planned_all.new.rows in
-    let w = c.reserve_all.new.rows in
-    let p = c.planned_all.ensures in
     let r = c.reserve_all.ensures in
     let x = c.release_all.new.rows in
-    let alike = alike_twice v.tables w.tables x.tables r.alike c.release_all.ensures.alike in
+    let alike = alike_twice v.tables c.reserve_all.new.rows.tables x.tables r.alike c.release_all.ensures.alike in
     subst (λ P. AreAlike (rows_seen u) (archetypes_of x.tables P)) (sym (c.release_all.ensures.places ∙ r.places))
-    (ready_rows u.tables v.tables x.tables u.places v.places p.grown p.same (c.release_all.ensures.shapes ∙ r.shapes) alike)
+    (ready_rows u.tables v.tables x.tables u.places v.places c.planned_all.ensures.grown c.planned_all.ensures.same (c.release_all.ensures.shapes ∙ r.shapes) alike)
 
 pub leave_all-requires-clause-owned : goal.leave_all-requires-clause-owned
-leave_all-requires-clause-owned c =
-    let v = c.planned_all.new.rows in
-    let w = c.reserve_all.new.rows in
-    let p = c.planned_all.ensures in
-    let r = c.reserve_all.ensures in
-    owned_kept v.tables w.tables r.shapes (p.grown.owned c.requires.owned)
+leave_all-requires-clause-owned c = owned_kept c.planned_all.new.rows.tables c.reserve_all.new.rows.tables c.reserve_all.ensures.shapes (c.planned_all.ensures.grown.owned c.requires.owned)
 
 pub leave_all-requires-clause-planned : goal.leave_all-requires-clause-planned
 leave_all-requires-clause-planned c =
@@ -79,24 +55,19 @@ leave_all-requires-clause-planned c =
 
 pub move_all-requires-clause-owned : goal.move_all-requires-clause-owned
 move_all-requires-clause-owned c =
-    let v = c.planned_all.new.rows in
-    let p = c.planned_all.ensures in
-    let r = c.reserve_all.ensures in
-    owned_kept v.tables c.leave_all.new.rows.tables (c.leave_all.ensures.shapes ∙ r.shapes) (p.grown.owned c.requires.owned)
+    owned_kept c.planned_all.new.rows.tables c.leave_all.new.rows.tables (c.leave_all.ensures.shapes ∙ c.reserve_all.ensures.shapes) (c.planned_all.ensures.grown.owned c.requires.owned)
 
 pub returns-clause-found : goal.returns-clause-found
 returns-clause-found c =
-    let v = c.planned_all.new.rows in
     let p = c.planned_all.ensures in
     let r = c.reserve_all.ensures in
-    found_shapes v.tables c.move_all.new.rows.tables c.planned_all.new.index (c.move_all.ensures.shapes ∙ c.leave_all.ensures.shapes ∙ r.shapes) p.found
+    found_shapes c.planned_all.new.rows.tables c.move_all.new.rows.tables c.planned_all.new.index (c.move_all.ensures.shapes ∙ c.leave_all.ensures.shapes ∙ r.shapes) p.found
 
 pub returns-clause-owned : goal.returns-clause-owned
 returns-clause-owned c =
-    let v = c.planned_all.new.rows in
     let p = c.planned_all.ensures in
     let r = c.reserve_all.ensures in
-    owned_kept v.tables c.move_all.new.rows.tables (c.move_all.ensures.shapes ∙ c.leave_all.ensures.shapes ∙ r.shapes) (p.grown.owned c.requires.owned)
+    owned_kept c.planned_all.new.rows.tables c.move_all.new.rows.tables (c.move_all.ensures.shapes ∙ c.leave_all.ensures.shapes ∙ r.shapes) (p.grown.owned c.requires.owned)
 
 pub returns-clause-ok : goal.returns-clause-ok
 returns-clause-ok c =

@@ -1,9 +1,4 @@
-use Rattle.std.proofs.Common.{◌≡◌, ◌<◌, ◌-◌, ◌+◌, drop, length, get_or, map, refl, sym, ap, subst, ◌∙◌, arith}
-use Rattle.std.specs.List.{AllByRecursion}
-use Rattle.model.proofs.lists.Bools.{apart_number}
-use Rattle.model.proofs.lists.Each.{each-at}
-use Rattle.archetype_store.specs.RowMoves.{change_of, other_table, arrives_in, HasLeft, IsPlanned}
-use Rattle.archetype_store.specs.Rows.{rows_seen}
+use Rattle.archetype_store.proofs.Common.{◌≡◌, ◌<◌, ◌-◌, ◌+◌, drop, length, get_or, map, refl, sym, ap, subst, ◌∙◌, arith, AllByRecursion, apart_number, each-at, change_of, other_table, arrives_in, HasLeft, IsPlanned, rows_seen}
 use Rattle.archetype_store.proofs.ColumnStandings.{owned_kept}
 use Rattle.archetype_store.proofs.RowDepartures.{all_stepped, room_after, arrives_first, alike_first, alike_next}
 use Rattle.archetype_store.proofs.RowMoveOrder.{change_is, within, later_apart, gone_more, none_behind}
@@ -16,10 +11,9 @@ leave_row-requires-clause-owned c = owned_kept c.args.rows.now.tables c.loop-lef
 
 pub leave_row-requires-clause-theirs : goal.leave_row-requires-clause-theirs
 leave_row-requires-clause-theirs c =
-    let m = c.index-moves-left.result in
     let P = IsPlanned c.loop-left.rows.tables c.loop-left.rows.places in
     let l : c.loop-left.left - 1 < length c.args.moves.now = (let w = c.loop-left.invariant.within in let t = c.loop-left-test.true in omega (arith, w, t)) in
-    (subst P (sym c.index-moves-left.is) (each-at P c.args.moves.now (c.loop-left.left - 1) m l c.loop-left.invariant.planned)).holder
+    (subst P (sym c.index-moves-left.is) (each-at P c.args.moves.now (c.loop-left.left - 1) c.index-moves-left.result l c.loop-left.invariant.planned)).holder
 
 pub loop-left-init : goal.loop-left-init
 loop-left-init c =
@@ -69,7 +63,3 @@ loop-left-preserved c =
 pub returns-clause-room : goal.returns-clause-room
 returns-clause-room c =
     room_after c.args.rows.now.tables c.loop-left.rows.tables c.args.rows.now.places c.loop-left.rows.places c.args.moves.now c.loop-left.invariant.arrives c.loop-left.invariant.rooms c.requires.room
-
-pub returns-clause-gone : goal.returns-clause-gone
-returns-clause-gone c =
-    subst (λ k. AllByRecursion (HasLeft c.loop-left.rows.places) (drop k c.args.moves.now)) (let none : c.loop-left.left ≡ 0 = (let t = c.loop-left-test.false in omega (arith, t)) in none) c.loop-left.invariant.gone

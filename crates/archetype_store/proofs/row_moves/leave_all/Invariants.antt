@@ -1,8 +1,4 @@
-use Rattle.std.proofs.Common.{◌≡◌, ◌≤◌, ℕ, drop, length, map}
-use Rattle.std.specs.List.{AllByRecursion}
-use Rattle.archetype_store.specs.RowMoves.{change_of, arrives_in, HasLeft, IsPlanned, AreAlikeBefore}
-use Rattle.archetype_store.specs.Rows.{rows_seen, AreRows}
-use Rattle.archetype_store.specs.Tables.{shape_of, room_at}
+use Rattle.archetype_store.proofs.Common.{◌≡◌, ◌≤◌, ℕ, drop, length, map, AllByRecursion, change_of, arrives_in, HasLeft, IsPlanned, AreAlikeBefore, rows_seen, AreRows, shape_of, room_at}
 use Rattle.archetype_store.proofs.row_moves.leave_all.Given as goal
 
 -- the rows that have left come where they would have come

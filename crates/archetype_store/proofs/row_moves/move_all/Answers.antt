@@ -1,12 +1,8 @@
-use Rattle.std.proofs.Common.{◌+◌, map, take, drop, refl, arith, sym, subst, ◌∙◌}
-use Rattle.archetype_store.specs.Storage.{HaveRows}
-use Rattle.archetype_store.specs.RowMoves.{change_of}
-use Rattle.archetype_store.specs.Rows.{rows_seen}
+use Rattle.archetype_store.proofs.Common.{◌+◌, map, take, drop, arith, sym, subst, ◌∙◌, HaveRows, change_of, rows_seen, length-map, take_all}
 use Rattle.archetype_store.proofs.ColumnStandings.{owned_kept}
 use Rattle.archetype_store.proofs.RowMoveOrder.{later_apart, earlier_apart, planned_here, gone_here, room_here, taken_next}
 use Rattle.archetype_store.proofs.RowMoves.{planned_all_rest, gone_rest, room_rest, room_first, rows_next}
 use Rattle.archetype_store.proofs.RowsMoved.{HasCome, has_come}
-use Rattle.std.proofs.lemmas.List.{length-map, take_all}
 use Rattle.archetype_store.proofs.row_moves.move_all.Goals as goal
 
 pub move_row-requires-clause-owned : goal.move_row-requires-clause-owned
@@ -14,36 +10,21 @@ move_row-requires-clause-owned c = owned_kept c.args.rows.now.tables c.loop-row.
 
 pub move_row-requires-clause-planned : goal.move_row-requires-clause-planned
 move_row-requires-clause-planned c =
-    let moves = c.args.moves.now in
-    let n = c.loop-row.row-index in
-    let m = c.row-item.result in
-    let l = c.loop-row-test.true in
     let is = sym c.row-item.is in
-    let v = c.loop-row.rows in
-    let i = c.loop-row.invariant in
-    (planned_here moves n m l is v.tables v.places i.planned).0
+    (planned_here c.args.moves.now c.loop-row.row-index c.row-item.result c.loop-row-test.true is c.loop-row.rows.tables c.loop-row.rows.places c.loop-row.invariant.planned).0
 
 pub move_row-requires-clause-gone : goal.move_row-requires-clause-gone
 move_row-requires-clause-gone c =
-    let moves = c.args.moves.now in
-    let n = c.loop-row.row-index in
-    let m = c.row-item.result in
-    let l = c.loop-row-test.true in
     let is = sym c.row-item.is in
-    let v = c.loop-row.rows in
-    let i = c.loop-row.invariant in
-    (gone_here moves n m l is v.places i.gone).0
+    (gone_here c.args.moves.now c.loop-row.row-index c.row-item.result c.loop-row-test.true is c.loop-row.rows.places c.loop-row.invariant.gone).0
 
 pub move_row-requires-clause-room : goal.move_row-requires-clause-room
 move_row-requires-clause-room c =
-    let moves = c.args.moves.now in
     let n = c.loop-row.row-index in
     let m = c.row-item.result in
-    let l = c.loop-row-test.true in
     let is = sym c.row-item.is in
     let v = c.loop-row.rows in
-    let i = c.loop-row.invariant in
-    room_first v.tables v.places m (drop (n + 1) moves) (room_here moves n m l is v.tables v.places i.room)
+    room_first v.tables v.places m (drop (n + 1) c.args.moves.now) (room_here c.args.moves.now n m c.loop-row-test.true is v.tables v.places c.loop-row.invariant.room)
 
 pub loop-row-preserved : goal.loop-row-preserved
 loop-row-preserved c =
@@ -54,7 +35,6 @@ loop-row-preserved c =
     let is = sym c.row-item.is in
     let v = c.loop-row.rows in
     let i = c.loop-row.invariant in
-    let u = c.args.rows.now in
     let w = c.move_row.new.rows in
     let plans = planned_here moves n m l is v.tables v.places i.planned in
     let left = gone_here moves n m l is v.places i.gone in
@@ -64,22 +44,12 @@ loop-row-preserved c =
     record {
       rows = e.rows;
       shapes = e.shapes ∙ i.shapes;
-      left = subst (λ cs. HaveRows (rows_seen u) cs (rows_seen w)) (sym (taken_next moves n m l is))
-          (rows_next (rows_seen u) (rows_seen v) (rows_seen w) (take n (map change_of moves)) (change_of m) (earlier_apart moves n m l is c.requires.apart) i.left e.left);
+      left = subst (λ cs. HaveRows (rows_seen c.args.rows.now) cs (rows_seen w)) (sym (taken_next moves n m l is))
+          (rows_next (rows_seen c.args.rows.now) (rows_seen v) (rows_seen w) (take n (map change_of moves)) (change_of m) (earlier_apart moves n m l is c.requires.apart) i.left e.left);
       planned = planned_all_rest v.tables w.tables v.places w.places m e.shapes e.many e.others (drop (n + 1) moves) later plans.1;
       gone = gone_rest v.tables w.tables v.places w.places m e.shapes e.many e.others (drop (n + 1) moves) later left.1;
       room = room_rest v.tables w.tables v.places w.places m e.shapes e.many e.others (drop (n + 1) moves) later e.rooms room;
     }
-
-pub loop-row-init : goal.loop-row-init
-loop-row-init c = record {
-  rows = c.prove_rows.ensures;
-  shapes = refl;
-  left = record { rows = λ i. refl; holders = λ i. refl };
-  planned = c.requires.planned;
-  gone = c.requires.gone;
-  room = c.requires.room;
-}
 
 pub returns-clause-left : goal.returns-clause-left
 returns-clause-left c =

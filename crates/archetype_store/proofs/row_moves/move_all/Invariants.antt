@@ -1,9 +1,4 @@
-use Rattle.std.proofs.Common.{◌≡◌, map, take, drop}
-use Rattle.std.specs.List.{AllByRecursion}
-use Rattle.archetype_store.specs.Storage.{HaveRows}
-use Rattle.archetype_store.specs.RowMoves.{change_of, HaveRoom, HasLeft, IsPlanned}
-use Rattle.archetype_store.specs.Rows.{rows_seen, AreRows}
-use Rattle.archetype_store.specs.Tables.{shape_of}
+use Rattle.archetype_store.proofs.Common.{◌≡◌, map, take, drop, AllByRecursion, HaveRows, change_of, HaveRoom, HasLeft, IsPlanned, rows_seen, AreRows, shape_of}
 use Rattle.archetype_store.proofs.row_moves.move_all.Given as goal
 
 -- the rows so far have moved

@@ -1,5 +1,4 @@
-use Rattle.std.proofs.Common.{sym, subst, ◌∙◌}
-use Rattle.archetype_store.specs.Rows.{CanJoin, CanRenew}
+use Rattle.archetype_store.proofs.Common.{sym, subst, ◌∙◌, CanJoin, CanRenew}
 use Rattle.archetype_store.proofs.RowsMoved.{can_renew, can_join}
 use Rattle.archetype_store.proofs.row_moves.move_row.Goals as goal
 

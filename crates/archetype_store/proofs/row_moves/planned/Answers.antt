@@ -1,9 +1,4 @@
-use Rattle.std.proofs.Common.{sym, ap, subst, ◌∙◌}
-use Rattle.column_store.specs.Table.{TableValue}
-use Rattle.std.proofs.Common.{List}
-use Rattle.archetype_store.specs.Changes.{row_left}
-use Rattle.archetype_store.specs.RowMoves.{IsTarget}
-use Rattle.archetype_store.specs.Storage.{place_of, holder_in, IsHolder}
+use Rattle.archetype_store.proofs.Common.{sym, ap, subst, ◌∙◌, TableValue, List, row_left, IsTarget, place_of, holder_in, IsHolder}
 use Rattle.archetype_store.proofs.row_moves.planned.Goals as goal
 
 pub returns-clause-planned : goal.returns-clause-planned

@@ -1,20 +1,15 @@
-use Rattle.std.proofs.Common.{◌++◌, [], ◌∷◌, map, sym, ap, ap₂, subst, ◌∙◌}
-use Rattle.std.proofs.lemmas.List.{map-append, take_more}
-use Rattle.std.specs.List.{AllByRecursion}
-use Rattle.model.proofs.lists.Each.{each-append, each-weaker}
-use Rattle.archetype_store.specs.RowMoves.{change_of, IsPlanned}
+use Rattle.archetype_store.proofs.Common.{◌++◌, [], ◌∷◌, map, sym, ap, ap₂, subst, ◌∙◌, map-append, take_more, AllByRecursion, each-append, each-weaker, change_of, IsPlanned}
 use Rattle.archetype_store.proofs.TableGrowth.{grown_trans, planned_kept}
 use Rattle.archetype_store.proofs.row_moves.planned_all.Goals as goal
 
 pub loop-change-preserved : goal.loop-change-preserved
 loop-change-preserved c =
-    let u = c.args.rows.now in
     let v = c.loop-change.rows in
     let w = c.planned.new.rows in
     let i = c.loop-change.invariant in
     record {
       found = c.planned.ensures.found;
-      grown = grown_trans u.tables v.tables w.tables i.grown c.planned.ensures.grown;
+      grown = grown_trans c.args.rows.now.tables v.tables w.tables i.grown c.planned.ensures.grown;
       same = λ k. c.planned.ensures.same k ∙ i.same k;
       changes = ap (map change_of) c.in_ok-push.ensures.items ∙ map-append change_of c.loop-change.moves.items _
           ∙ ap₂ (λ xs x. xs ++ x ∷ []) i.changes (c.in_ok-planned.ensures.change ∙ c.change-item.is) ∙ sym (take_more c.args.changes.now c.loop-change.change-index c.change-item.result c.loop-change-test.true);

@@ -1,9 +1,4 @@
-use Rattle.std.proofs.Common.{◌≡◌, ℕ, map, take}
-use Rattle.std.specs.List.{AllByRecursion}
-use Rattle.archetype_store.specs.TableIndex.{IsFound}
-use Rattle.archetype_store.specs.Tables.{IsGrown}
-use Rattle.archetype_store.specs.Storage.{place_of}
-use Rattle.archetype_store.specs.RowMoves.{change_of, IsPlanned}
+use Rattle.archetype_store.proofs.Common.{◌≡◌, ℕ, map, take, AllByRecursion, IsFound, IsGrown, place_of, change_of, IsPlanned}
 use Rattle.archetype_store.proofs.row_moves.planned_all.Given as goal
 
 -- the changes so far are planned

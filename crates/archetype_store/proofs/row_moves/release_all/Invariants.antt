@@ -1,5 +1,4 @@
-use Rattle.std.proofs.Common.{◌≡◌, map}
-use Rattle.archetype_store.specs.Tables.{shape_of, AreAllAlike}
+use Rattle.archetype_store.proofs.Common.{◌≡◌, map, shape_of, AreAllAlike}
 use Rattle.archetype_store.proofs.row_moves.release_all.Given as goal
 
 abbrev pub invariant-loop-row : goal.invariant-loop-row

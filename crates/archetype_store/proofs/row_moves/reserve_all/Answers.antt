@@ -1,9 +1,5 @@
-use Rattle.std.proofs.Common.{◌≡◌, ◌+◌, ◌<◌, ◌++◌, [], ◌∷◌, Some, None, length, map, set, take, refl, sym, ap, subst, ◌∙◌, arith}
-use Rattle.model.proofs.lists.Each.{each-at}
+use Rattle.archetype_store.proofs.Common.{◌≡◌, ◌+◌, ◌<◌, ◌++◌, [], ◌∷◌, Some, None, length, map, set, take, refl, sym, ap, subst, ◌∙◌, arith, each-at, arrives_in, HaveRoom, IsPlanned, RowsValue, room_at, with_room, table_at, shape_of, AreAllAlike}
 use Rattle.model.proofs.serial.Conflicts.{none_from_no as none_of}
-use Rattle.archetype_store.specs.RowMoves.{arrives_in, HaveRoom, IsPlanned}
-use Rattle.archetype_store.specs.Rows.{RowsValue}
-use Rattle.archetype_store.specs.Tables.{room_at, with_room, table_at, shape_of, AreAllAlike}
 use Rattle.archetype_store.proofs.ColumnStandings.{alike_self, owned_kept}
 use Rattle.archetype_store.proofs.RowMoveOrder.{rows_taken}
 use Rattle.archetype_store.proofs.RowMoves.{as_many_tables, arrives_within, shapes_room, room_kept, room_made}
@@ -17,17 +13,12 @@ loop-row-init c = record { places = refl; shapes = refl; alike = alike_self c.ar
 pub reserve-requires-clause-within : goal.reserve-requires-clause-within
 reserve-requires-clause-within c =
     let u = c.args.rows.now in
-    let v = c.loop-row.rows in
-    let moves = c.args.moves.now in
-    let n = c.loop-row.row-index in
     let m = c.row-item.result in
     let l = c.loop-row-test.true in
     let i = c.loop-row.invariant in
-    let plan = subst (IsPlanned u.tables u.places) (sym c.row-item.is) (each-at (IsPlanned u.tables u.places) moves n m l c.requires.planned) in
+    let plan = subst (IsPlanned u.tables u.places) (sym c.row-item.is) (each-at (IsPlanned u.tables u.places) c.args.moves.now c.loop-row.row-index m l c.requires.planned) in
     let told = c.arrives_in.ensures ∙ ap (λ P. arrives_in P m) i.places in
-    let many = as_many_tables u.tables v.tables i.shapes in
-    let within = arrives_within u.tables u.places m c.in-Some.table plan (sym told ∙ c.in-Some.is) in
-    omega arith
+    omega (arith, as_many_tables u.tables c.loop-row.rows.tables i.shapes, arrives_within u.tables u.places m c.in-Some.table plan (sym told ∙ c.in-Some.is))
 
 pub reserve-requires-clause-owned : goal.reserve-requires-clause-owned
 reserve-requires-clause-owned c = owned_kept c.args.rows.now.tables c.loop-row.rows.tables c.loop-row.invariant.shapes c.requires.owned

@@ -1,6 +1,4 @@
-use Rattle.std.proofs.Common.{◌≡◌, map, take}
-use Rattle.archetype_store.specs.RowMoves.{HaveRoom}
-use Rattle.archetype_store.specs.Tables.{shape_of, AreAllAlike}
+use Rattle.archetype_store.proofs.Common.{◌≡◌, map, take, HaveRoom, shape_of, AreAllAlike}
 use Rattle.archetype_store.proofs.row_moves.reserve_all.Given as goal
 
 -- there is room for the rows so far

@@ -1,6 +1,4 @@
-use Rattle.std.proofs.Common.{subst, sym}
-use Rattle.model.proofs.lists.Each.{each-at}
-use Rattle.archetype_store.specs.Changes.{IsHeldBy}
+use Rattle.archetype_store.proofs.Common.{subst, sym, each-at, IsHeldBy}
 use Rattle.archetype_store.proofs.BookChanges.{held_until}
 use Rattle.archetype_store.proofs.settling.settle_all.Goals as goal
 

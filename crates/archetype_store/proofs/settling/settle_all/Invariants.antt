@@ -1,5 +1,4 @@
-use Rattle.std.proofs.Common.{◌≡◌, take}
-use Rattle.archetype_store.specs.Changes.{book_changed}
+use Rattle.archetype_store.proofs.Common.{◌≡◌, take, book_changed}
 use Rattle.archetype_store.proofs.settling.settle_all.Given as goal
 
 -- the changes so far are made

@@ -1,7 +1,4 @@
-use Rattle.std.proofs.Common.{ap, sym, ◌∙◌}
-use Rattle.model.specs.Lists.{update_at}
-use Rattle.model.specs.state.Commands.{freed}
-use Rattle.archetype_store.specs.Changes.{settled_slot}
+use Rattle.archetype_store.proofs.Common.{ap, sym, ◌∙◌, update_at, freed, settled_slot}
 use Rattle.archetype_store.proofs.BookChanges.{freed_once}
 use Rattle.archetype_store.proofs.settling.settle_one.Goals as goal
 

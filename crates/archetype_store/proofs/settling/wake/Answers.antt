@@ -1,5 +1,4 @@
-use Rattle.std.proofs.Common.{sym, subst, true, ◌≡◌, ◌∙◌}
-use Rattle.model.specs.state.Commands.{is_alive}
+use Rattle.archetype_store.proofs.Common.{sym, subst, true, ◌≡◌, ◌∙◌, is_alive}
 use Rattle.archetype_store.proofs.BookChanges.{woken_living, woken_granted, woken_lives, granted_else}
 use Rattle.archetype_store.proofs.settling.wake.Goals as goal
 

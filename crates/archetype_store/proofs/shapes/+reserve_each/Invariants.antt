@@ -1,4 +1,4 @@
-use Rattle.std.proofs.Common.{length}
+use Rattle.archetype_store.proofs.Common.{length}
 use Rattle.archetype_store.proofs.shapes.+reserve_each.Given as goal
 
 -- how many shapes are left

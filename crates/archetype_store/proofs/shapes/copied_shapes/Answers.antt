@@ -1,18 +1,5 @@
-use Rattle.std.proofs.Common.{ℕ, List, [], map, ap, ◌∙◌}
-use Rattle.std.proofs.lemmas.Result.{IfOk-from_err}
-use Rattle.model.proofs.lists.Turns.{copied_next, mapped_all}
-use Rattle.archetype_store.specs.declared.shapes.KeptShape.{KeptShape}
-use Rattle.archetype_store.specs.Shapes.{Fitting, kept_seen}
+use Rattle.archetype_store.proofs.Common.{ℕ, List, [], map, ap, ◌∙◌, copied_next, mapped_all, KeptShape, Fitting, kept_seen}
 use Rattle.archetype_store.proofs.shapes.copied_shapes.Goals as goal
-
-pub returns-in_err-copies : goal.returns-in_err-copies
-returns-in_err-copies c = IfOk-from_err c.from_residual.result _ c.from_residual.ensures.0
-
-pub returns-in_err-from_slice : goal.returns-in_err-from_slice
-returns-in_err-from_slice c = IfOk-from_err c.from_residual-in_err-from_slice.result _ c.from_residual-in_err-from_slice.ensures.0
-
-pub returns-in_err-push : goal.returns-in_err-push
-returns-in_err-push c = IfOk-from_err c.from_residual-in_err-push.result _ c.from_residual-in_err-push.ensures.0
 
 pub loop-kept-preserved : goal.loop-kept-preserved
 loop-kept-preserved c =

@@ -1,5 +1,4 @@
-use Rattle.std.proofs.Common.{◌≡◌, map, take}
-use Rattle.archetype_store.specs.Shapes.{kept_seen}
+use Rattle.archetype_store.proofs.Common.{◌≡◌, map, take, kept_seen}
 use Rattle.archetype_store.proofs.shapes.copied_shapes.Given as goal
 
 -- those so far are copied

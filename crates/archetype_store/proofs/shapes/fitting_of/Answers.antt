@@ -1,7 +1,4 @@
-use Rattle.std.proofs.Common.{sym, ap, ◌∙◌}
-use Rattle.std.proofs.lemmas.Result.{IfOk-from_err}
-use Rattle.archetype_store.specs.LivingSets.{set_number}
-use Rattle.archetype_store.specs.Shapes.{fits}
+use Rattle.archetype_store.proofs.Common.{sym, ap, ◌∙◌, set_number, fits}
 use Rattle.archetype_store.proofs.ListSteps.{fitting_passed, fitting_next, fitting_all}
 use Rattle.archetype_store.proofs.shapes.fitting_of.Goals as goal
 
@@ -9,9 +6,6 @@ pub loop-number-preserved-then-not-fits : goal.loop-number-preserved-then-not-fi
 loop-number-preserved-then-not-fits c =
     let fit = ap (λ ks. fits c.args.shape (set_number ks)) (sym c.kinds.ensures.kinds) ∙ ap (fits c.args.shape) (sym c.number_of.ensures.sum) ∙ sym c.if-not-fits.ensures in
     fitting_passed c.args.shape c.args.tables.now c.loop-number.number c.index-tables-number.result c.loop-number.fitting.items c.loop-number-test.true c.index-tables-number.is fit c.loop-number.invariant
-
-pub returns-in_err-push : goal.returns-in_err-push
-returns-in_err-push c = IfOk-from_err c.from_residual.result _ c.from_residual.ensures.0
 
 pub loop-number-preserved : goal.loop-number-preserved
 loop-number-preserved c =

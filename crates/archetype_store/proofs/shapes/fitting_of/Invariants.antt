@@ -1,5 +1,4 @@
-use Rattle.std.proofs.Common.{◌≡◌, ◌++◌, drop}
-use Rattle.archetype_store.specs.Shapes.{fitting_tables}
+use Rattle.archetype_store.proofs.Common.{◌≡◌, ◌++◌, drop, fitting_tables}
 use Rattle.archetype_store.proofs.shapes.fitting_of.Given as goal
 
 -- those so far, and those from here on

@@ -1,16 +1,9 @@
-use Rattle.std.proofs.lemmas.Result.{IfOk-from_err}
 use Rattle.archetype_store.proofs.ListSteps.{numbered_passed, numbered_next, numbered_all}
 use Rattle.archetype_store.proofs.shapes.numbers_at.Goals as goal
-
-pub returns-in_err-reserve : goal.returns-in_err-reserve
-returns-in_err-reserve c = IfOk-from_err c.from_residual.result _ c.from_residual.ensures.0
 
 pub loop-table-preserved-in_default : goal.loop-table-preserved-in_default
 loop-table-preserved-in_default c =
     numbered_passed c.args.numbers.now c.args.tables.now c.loop-table.table-index c.loop-table.archetypes.items c.loop-table-test.true c.in_default.ensures c.loop-table.invariant
-
-pub returns-in_err-push : goal.returns-in_err-push
-returns-in_err-push c = IfOk-from_err c.from_residual-in_err-push.result _ c.from_residual-in_err-push.ensures.0
 
 pub loop-table-preserved : goal.loop-table-preserved
 loop-table-preserved c =

@@ -1,5 +1,4 @@
-use Rattle.std.proofs.Common.{◌≡◌, ◌++◌, drop}
-use Rattle.archetype_store.specs.Shapes.{numbered}
+use Rattle.archetype_store.proofs.Common.{◌≡◌, ◌++◌, drop, numbered}
 use Rattle.archetype_store.proofs.shapes.numbers_at.Given as goal
 
 -- those so far, and those of the tables from here on

@@ -1,7 +1,4 @@
-use Rattle.std.proofs.Common.{◌≡◌, ℕ, ◌<◌, ◌==◌, ◌||◌, ◌*◌, ◌%◌, ◌^◌, sym, subst, arith}
-use Rattle.std.specs.Prelude.{bit_or}
-use Rattle.kinds.specs.Kind.{kind_number}
-use Rattle.archetype_store.specs.TableIndex.{has_bit}
+use Rattle.archetype_store.proofs.Common.{◌≡◌, ℕ, ◌<◌, ◌==◌, ◌||◌, ◌*◌, ◌%◌, ◌^◌, sym, subst, arith, bit_or, kind_number, has_bit}
 use Rattle.archetype_store.proofs.TableIndex.{bit_set}
 use Rattle.archetype_store.proofs.table_index.with_kind.Goals as goal
 

@@ -1,12 +1,5 @@
-use Rattle.std.proofs.Common.{[], map}
-use Rattle.std.proofs.lemmas.Result.{IfOk-from_err}
-use Rattle.model.proofs.lists.Turns.{copied_next, mapped_all}
-use Rattle.kinds.specs.Kind.{kind_number}
-use Rattle.column_store.specs.Cells.{stamped_number}
+use Rattle.archetype_store.proofs.Common.{[], map, copied_next, mapped_all, kind_number, stamped_number}
 use Rattle.archetype_store.proofs.tables.kinds_of.Goals as goal
-
-pub returns-in_err-push : goal.returns-in_err-push
-returns-in_err-push c = IfOk-from_err c.from_residual.result _ c.from_residual.ensures.0
 
 pub loop-component-preserved : goal.loop-component-preserved
 loop-component-preserved c =

@@ -1,6 +1,4 @@
-use Rattle.std.proofs.Common.{map, ap, ◌∙◌}
-use Rattle.kinds.specs.Kind.{kind_number}
-use Rattle.column_store.specs.Cells.{stamped_number}
+use Rattle.archetype_store.proofs.Common.{map, ap, ◌∙◌, kind_number, stamped_number}
 use Rattle.archetype_store.proofs.KindOrder.{made_is}
 use Rattle.archetype_store.proofs.tables.made_for.Goals as goal
 

@@ -1,16 +1,8 @@
-use Rattle.std.proofs.Common.{◌++◌, [], ◌∷◌, map, sym, ap, subst, ◌∙◌}
-use Rattle.std.proofs.lemmas.Result.{on_ok_weaker}
-use Rattle.column_store.specs.Cells.{stamped_number}
-use Rattle.column_store.specs.Table.{TableValue}
-use Rattle.archetype_store.specs.TableIndex.{IsFound}
+use Rattle.archetype_store.proofs.Common.{◌++◌, [], ◌∷◌, map, sym, ap, ◌∙◌, on_ok_weaker, stamped_number, TableValue}
 use Rattle.archetype_store.proofs.KindOrder.{grown_if, some_numbers}
 use Rattle.archetype_store.proofs.TableIndex.{kinds_found, none_found}
-use Rattle.std.proofs.lemmas.Result.{IfOk-from_err}
 use Rattle.archetype_store.proofs.TableGrowth.{grown_self, table_added, kinds_added}
 use Rattle.archetype_store.proofs.tables.table_for.Goals as goal
-
-pub returns-in-Some-clause-within : goal.returns-in-Some-clause-within
-returns-in-Some-clause-within c = c.requires.found.within c.in-Some.table c.word_of-word.result (sym c.find.ensures.found ∙ c.in-Some.is)
 
 pub returns-in-Some-clause-kinds : goal.returns-in-Some-clause-kinds
 returns-in-Some-clause-kinds c =
@@ -28,20 +20,8 @@ returns-in_ok-made-in-None-clause-grown c =
 pub returns-in-Some-clause-grown : goal.returns-in-Some-clause-grown
 returns-in-Some-clause-grown c = grown_self c.args.tables.now.items c.requires.shaped c.requires.unlike
 
-pub returns-in-Some-clause-found : goal.returns-in-Some-clause-found
-returns-in-Some-clause-found c = subst (IsFound c.args.tables.now.items) (sym c.find.ensures.same) c.requires.found
-
-pub returns-in_err-made-in-None-clause-within : goal.returns-in_err-made-in-None-clause-within
-returns-in_err-made-in-None-clause-within c = IfOk-from_err c.from_residual.result _ c.from_residual.ensures.0
-
-pub returns-in_err-made-in-None-clause-kinds : goal.returns-in_err-made-in-None-clause-kinds
-returns-in_err-made-in-None-clause-kinds c = IfOk-from_err c.from_residual.result _ c.from_residual.ensures.0
-
 pub returns-in_err-made-in-None-clause-grown : goal.returns-in_err-made-in-None-clause-grown
 returns-in_err-made-in-None-clause-grown c = grown_self c.args.tables.now.items c.requires.shaped c.requires.unlike
-
-pub returns-in_err-made-in-None-clause-found : goal.returns-in_err-made-in-None-clause-found
-returns-in_err-made-in-None-clause-found c = subst (IsFound c.args.tables.now.items) (sym c.find.ensures.same) c.requires.found
 
 pub returns-in_ok-made-in-None-clause-within : goal.returns-in_ok-made-in-None-clause-within
 returns-in_ok-made-in-None-clause-within c = table_added c.add.result c.args.tables.now.items c.add.new.tables.items c.in_ok-made-in-None.made c.add.ensures.number c.add.ensures.made
@@ -49,9 +29,3 @@ returns-in_ok-made-in-None-clause-within c = table_added c.add.result c.args.tab
 pub returns-in_ok-made-in-None-clause-kinds : goal.returns-in_ok-made-in-None-clause-kinds
 returns-in_ok-made-in-None-clause-kinds c =
     kinds_added c.add.result c.args.tables.now.items c.add.new.tables.items c.in_ok-made-in-None.made (map stamped_number c.args.components.now) (ap (λ (t : TableValue). t.kinds) c.in_ok-made-in-None.ensures) c.add.ensures.number c.add.ensures.made
-
-pub returns-in_ok-made-in-None-clause-found : goal.returns-in_ok-made-in-None-clause-found
-returns-in_ok-made-in-None-clause-found c = c.add.ensures.found
-
-pub add-requires-clause-found : goal.add-requires-clause-found
-add-requires-clause-found c = subst (IsFound c.args.tables.now.items) (sym c.find.ensures.same) c.requires.found

@@ -1,9 +1,4 @@
-use Rattle.std.proofs.Common.{sym, subst, ◌∙◌}
-use Rattle.std.specs.List.{AllByRecursion}
-use Rattle.model.proofs.lists.Each.{each-append}
-use Rattle.column_store.specs.Order.{AreApart}
-use Rattle.column_store.specs.RowOrder.{OrdersRows}
-use Rattle.archetype_store.specs.View.{kinds_seen, entities_seen}
+use Rattle.archetype_store.proofs.Common.{sym, subst, ◌∙◌, AllByRecursion, each-append, AreApart, OrdersRows, kinds_seen, entities_seen}
 use Rattle.archetype_store.proofs.TableLayouts.{view_passed, view_added}
 use Rattle.archetype_store.proofs.tables.views_of.Goals as goal
 

@@ -1,9 +1,4 @@
-use Rattle.std.proofs.Common.{◌≡◌, map, take}
-use Rattle.std.specs.List.{AllByRecursion}
-use Rattle.column_store.specs.Order.{AreApart}
-use Rattle.column_store.specs.RowOrder.{OrdersRows}
-use Rattle.archetype_store.specs.Layout.{layout_of}
-use Rattle.archetype_store.specs.View.{kinds_seen, entities_seen}
+use Rattle.archetype_store.proofs.Common.{◌≡◌, map, take, AllByRecursion, AreApart, OrdersRows, layout_of, kinds_seen, entities_seen}
 use Rattle.archetype_store.proofs.tables.views_of.Given as goal
 
 -- the tables so far are seen

@@ -1,4 +1,4 @@
-use Rattle.std.proofs.Common.{length}
+use Rattle.column_store.proofs.Common.{length}
 use Rattle.column_store.proofs.column_slot.+own_each.Given as goal
 
 abbrev pub decreases-own_each : goal.decreases-own_each

@@ -1,4 +1,4 @@
-use Rattle.std.proofs.Common.{length}
+use Rattle.column_store.proofs.Common.{length}
 use Rattle.column_store.proofs.column_slot.+replace_row.Given as goal
 
 abbrev pub decreases-replace_row : goal.decreases-replace_row

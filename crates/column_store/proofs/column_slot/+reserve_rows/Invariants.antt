@@ -1,4 +1,4 @@
-use Rattle.std.proofs.Common.{length}
+use Rattle.column_store.proofs.Common.{length}
 use Rattle.column_store.proofs.column_slot.+reserve_rows.Given as goal
 
 abbrev pub decreases-reserve_rows : goal.decreases-reserve_rows

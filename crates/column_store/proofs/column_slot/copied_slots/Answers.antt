@@ -1,7 +1,4 @@
-use Rattle.std.proofs.Common.{◌≡◌, ◌+◌, ◌≤◌, List, length, map, sym, ap, subst, ◌∙◌}
-use Rattle.column_store.specs.Table.{ColumnSlotValue}
-use Rattle.column_store.specs.Table.Standing.{Owned}
-use Rattle.column_store.specs.Inside.{standing_at, seen_slot}
+use Rattle.column_store.proofs.Common.{◌≡◌, ◌+◌, ◌≤◌, List, length, map, sym, ap, subst, ◌∙◌, ColumnSlotValue, Owned, standing_at, seen_slot}
 use Rattle.column_store.proofs.Turns.{matched-more-twice, all_seen}
 use Rattle.column_store.proofs.column_slot.copied_slots.Goals as goal
 

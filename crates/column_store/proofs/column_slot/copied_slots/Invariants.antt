@@ -1,7 +1,4 @@
-use Rattle.std.proofs.Common.{◌≡◌, ◌≤◌, length, map, take, vec_len}
-use Rattle.std.specs.Prelude.{vec_capacity}
-use Rattle.column_store.specs.Table.Standing.{Owned}
-use Rattle.column_store.specs.Inside.{standing_at, seen_slot}
+use Rattle.column_store.proofs.Common.{◌≡◌, ◌≤◌, length, map, take, vec_len, vec_capacity, Owned, standing_at, seen_slot}
 use Rattle.column_store.proofs.column_slot.copied_slots.Given as goal
 
 -- the columns so far are copied, and there is room for all

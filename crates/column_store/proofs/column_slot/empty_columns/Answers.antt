@@ -1,7 +1,5 @@
-use Rattle.std.proofs.Common.{◌≡◌, List, [], ap, map, ◌∙◌}
+use Rattle.column_store.proofs.Common.{◌≡◌, List, [], ap, map, ◌∙◌, Kind, empty_column, owned_slot}
 use Rattle.model.proofs.lists.Turns.{mapped_next}
-use Rattle.kinds.specs.declared.kind.Kind.{Kind}
-use Rattle.column_store.specs.Inside.{empty_column, owned_slot}
 use Rattle.column_store.proofs.Turns.{all_seen}
 use Rattle.column_store.proofs.column_slot.empty_columns.Goals as goal
 

@@ -1,5 +1,4 @@
-use Rattle.std.proofs.Common.{◌≡◌, map, take}
-use Rattle.column_store.specs.Inside.{empty_column}
+use Rattle.column_store.proofs.Common.{◌≡◌, map, take, empty_column}
 use Rattle.column_store.proofs.column_slot.empty_columns.Given as goal
 
 abbrev pub invariant-loop-kind : goal.invariant-loop-kind

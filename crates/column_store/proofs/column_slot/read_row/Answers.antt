@@ -1,11 +1,5 @@
-use Rattle.std.proofs.Common.{◌≡◌, ◌+◌, ◌≤◌, List, [], length, map, slice_get, Some, ap, subst, sym, ◌∙◌}
-use Rattle.std.proofs.lemmas.List.{length_push}
+use Rattle.column_store.proofs.Common.{◌≡◌, ◌+◌, ◌≤◌, List, [], length, map, slice_get, Some, ap, subst, sym, ◌∙◌, length_push, stamped_number, stamped_cell, StampedValue, ColumnCells, ColumnSlotValue, cell_at, kind_in}
 use Rattle.model.proofs.lists.Turns.{copied_next}
-use Rattle.column_store.specs.Cells.{stamped_number, stamped_cell}
-use Rattle.column_store.specs.declared.stamped.StampedValue.{StampedValue}
-use Rattle.column_store.specs.Column.{ColumnCells}
-use Rattle.column_store.specs.Table.{ColumnSlotValue}
-use Rattle.column_store.specs.Inside.{cell_at, kind_in}
 use Rattle.column_store.proofs.Turns.{all_seen}
 use Rattle.column_store.proofs.column_slot.read_row.Goals as goal
 

@@ -1,6 +1,4 @@
-use Rattle.std.proofs.Common.{◌≡◌, ◌≤◌, length, map, take, Some}
-use Rattle.column_store.specs.Cells.{stamped_number, stamped_cell}
-use Rattle.column_store.specs.Inside.{cell_at, kind_in}
+use Rattle.column_store.proofs.Common.{◌≡◌, ◌≤◌, length, map, take, Some, stamped_number, stamped_cell, cell_at, kind_in}
 use Rattle.column_store.proofs.column_slot.read_row.Given as goal
 
 abbrev pub invariant-loop-column : goal.invariant-loop-column

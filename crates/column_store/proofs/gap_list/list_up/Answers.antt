@@ -1,4 +1,4 @@
-use Rattle.std.proofs.Common.{◌++◌, ◌∷◌, [], ap, sym, arith, ◌∙◌}
+use Rattle.column_store.proofs.Common.{◌++◌, ◌∷◌, [], ap, sym, arith, ◌∙◌}
 use Rattle.column_store.proofs.Numbers.{numbers-more}
 use Rattle.column_store.proofs.gap_list.list_up.Goals as goal
 

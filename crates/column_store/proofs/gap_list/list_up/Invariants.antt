@@ -1,6 +1,4 @@
-use Rattle.std.proofs.Common.{◌≡◌, vec_len}
-use Rattle.std.specs.Prelude.{vec_capacity}
-use Rattle.column_store.specs.RowOrder.{numbers_from}
+use Rattle.column_store.proofs.Common.{◌≡◌, vec_len, vec_capacity, numbers_from}
 use Rattle.column_store.proofs.gap_list.list_up.Given as goal
 
 abbrev pub invariant-loop-row : goal.invariant-loop-row

@@ -1,4 +1,4 @@
-use Rattle.std.proofs.Common.{vec_len, ◌∙◌, arith}
+use Rattle.column_store.proofs.Common.{vec_len, ◌∙◌, arith}
 use Rattle.column_store.proofs.Gaps.{moved_back, moved_many, not_yet_before}
 use Rattle.column_store.proofs.gap_list.move_back.Goals as goal
 

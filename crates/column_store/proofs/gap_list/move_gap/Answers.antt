@@ -1,4 +1,4 @@
-use Rattle.std.proofs.Common.{vec_len, sym, ◌∙◌}
+use Rattle.column_store.proofs.Common.{vec_len, sym, ◌∙◌}
 use Rattle.column_store.proofs.Gaps.{moved_back, moved_other, not_yet_behind}
 use Rattle.column_store.proofs.gap_list.move_gap.Goals as goal
 

@@ -1,5 +1,4 @@
-use Rattle.std.proofs.Common.{◌≡◌, ◌+◌, ◌≤◌, ◌++◌, reverse, vec_len}
-use Rattle.std.specs.Prelude.{vec_capacity}
+use Rattle.column_store.proofs.Common.{◌≡◌, ◌+◌, ◌≤◌, ◌++◌, reverse, vec_len, vec_capacity}
 use Rattle.column_store.proofs.gap_list.move_gap.Given as goal
 
 abbrev pub invariant-loop-back : goal.invariant-loop-back

@@ -1,6 +1,4 @@
-use Rattle.std.proofs.Common.{◌∙◌, arith}
-use Rattle.std.proofs.lemmas.Int.{to_z-of_z}
-use Rattle.std.proofs.lemmas.List.{length-set}
+use Rattle.column_store.proofs.Common.{◌∙◌, arith, to_z-of_z, length-set}
 use Rattle.column_store.proofs.Fields.{read-more}
 use Rattle.column_store.proofs.packs.read_in.Goals as goal
 
@@ -11,6 +9,3 @@ loop-i-preserved g c = record {
       read-more g.P.Packed.words c.args.items.now c.args.from c.loop-i.i c.args.field c.index-items-from.result _ c.loop-i.values (omega arith) (omega arith) c.index-items-from.is
       ((search to_z-of_z) ∙ c.word.ensures) c.loop-i.invariant.done;
 }
-
-pub returns-clause-values : goal.returns-clause-values
-returns-clause-values g c = λ i l. c.loop-i.invariant.done i (omega arith)

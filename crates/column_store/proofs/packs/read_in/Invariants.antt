@@ -1,5 +1,4 @@
-use Rattle.std.proofs.Common.{◌≡◌, ℕ, ℤ, ◌+◌, ◌<◌, pos, List, map, option_map, Some, length, get_or, slice_get}
-use Rattle.kinds.specs.Components.{word_at}
+use Rattle.column_store.proofs.Common.{◌≡◌, ℕ, ℤ, ◌+◌, ◌<◌, pos, List, map, option_map, Some, length, get_or, slice_get, word_at}
 use Rattle.column_store.proofs.packs.read_in.Given as goal
 
 abbrev pub invariant-loop-i : goal.invariant-loop-i

@@ -1,6 +1,4 @@
-use Rattle.std.proofs.Common.{◌+◌, pos, map, ◌∙◌, arith}
-use Rattle.std.proofs.lemmas.Int.{to_z-of_z}
-use Rattle.std.proofs.lemmas.List.{length-set}
+use Rattle.column_store.proofs.Common.{◌+◌, pos, map, ◌∙◌, arith, to_z-of_z, length-set}
 use Rattle.column_store.proofs.Fields.{write-more, all-written}
 use Rattle.column_store.proofs.packs.write_in.Goals as goal
 

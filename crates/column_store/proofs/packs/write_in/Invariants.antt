@@ -1,5 +1,4 @@
-use Rattle.std.proofs.Common.{◌≡◌, ◌+◌, map, length, drop, vec_capacity}
-use Rattle.column_store.specs.Fields.{with_field_words}
+use Rattle.column_store.proofs.Common.{◌≡◌, ◌+◌, map, length, drop, vec_capacity, with_field_words}
 use Rattle.column_store.proofs.packs.write_in.Given as goal
 
 abbrev pub invariant-loop-i : goal.invariant-loop-i

@@ -1,4 +1,4 @@
-use Rattle.std.proofs.Common.{sym, ◌∙◌, arith}
+use Rattle.column_store.proofs.Common.{sym, ◌∙◌, arith}
 use Rattle.column_store.proofs.Listed.{none_behind}
 use Rattle.column_store.proofs.Rising.{rising-behind}
 use Rattle.column_store.proofs.row_numbers.comes_behind.Goals as goal

@@ -1,6 +1,4 @@
-use Rattle.std.proofs.Common.{length, sym, ap, subst, ◌∙◌}
-use Rattle.column_store.specs.EntityList.{GapListValue, IsKept}
-use Rattle.column_store.specs.RowOrder.{IsOrderOf}
+use Rattle.column_store.proofs.Common.{length, sym, ap, subst, ◌∙◌, GapListValue, IsKept, IsOrderOf}
 use Rattle.column_store.proofs.Ordered.{rising-ordered, length-numbers}
 use Rattle.column_store.proofs.row_numbers.ensure_listed.Goals as goal
 

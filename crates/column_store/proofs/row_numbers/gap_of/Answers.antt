@@ -1,4 +1,4 @@
-use Rattle.std.proofs.Common.{◌≡◌, true, false, get_or, sym, ap, ◌∙◌, arith}
+use Rattle.column_store.proofs.Common.{◌≡◌, true, false, get_or, sym, ap, ◌∙◌, arith}
 use Rattle.column_store.proofs.Numbers.{row_before, rows_below, rows_above, gap_from_rows}
 use Rattle.column_store.proofs.row_numbers.gap_of.Goals as goal
 
@@ -6,14 +6,12 @@ pub loop-low-preserved-then-comes_before : goal.loop-low-preserved-then-comes_be
 loop-low-preserved-then-comes_before c =
     let es = c.args.entities.now in
     let e = c.args.e in
-    let rows = c.args.numbers.now.items in
     let i = c.loop-low.invariant in
     let place = c.looked_at-place.result in
     let low = c.looked_at-place.ensures.low in
     let less = c.looked_at-place.ensures.high in
-    let b = i.bound in
-    let at : row_before es e (get_or rows place 0) ≡ true = ap (row_before es e) (sym c.at.ensures) ∙ sym c.comes_before.ensures ∙ c.if-comes_before.true in
-    record { within = omega (arith, less); bound = b; before = rows_below es e rows place c.requires (omega (arith, less, b)) at; behind = i.behind }
+    let at : row_before es e (get_or c.args.numbers.now.items place 0) ≡ true = ap (row_before es e) (sym c.at.ensures) ∙ sym c.comes_before.ensures ∙ c.if-comes_before.true in
+    record { within = omega (arith, less); bound = i.bound; before = rows_below es e c.args.numbers.now.items place c.requires (omega (arith, less, i.bound)) at; behind = i.behind }
 
 pub loop-low-preserved : goal.loop-low-preserved
 loop-low-preserved c =
@@ -22,11 +20,8 @@ loop-low-preserved c =
     let rows = c.args.numbers.now.items in
     let i = c.loop-low.invariant in
     let place = c.looked_at-place.result in
-    let low = c.looked_at-place.ensures.low in
-    let less = c.looked_at-place.ensures.high in
-    let b = i.bound in
     let at : row_before es e (get_or rows place 0) ≡ false = ap (row_before es e) (sym c.at.ensures) ∙ sym c.comes_before.ensures ∙ c.if-comes_before.false in
-    record { within = low; bound = omega (arith, less, b); before = i.before; behind = rows_above es e rows place c.requires at }
+    record { within = c.looked_at-place.ensures.low; bound = omega (arith, c.looked_at-place.ensures.high, i.bound); before = i.before; behind = rows_above es e rows place c.requires at }
 
 pub returns : goal.returns
 returns c =

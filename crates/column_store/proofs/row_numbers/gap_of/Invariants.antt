@@ -1,4 +1,4 @@
-use Rattle.std.proofs.Common.{◌≡◌, ℕ, ◌-◌, ◌<◌, ◌≤◌, true, false, length, get_or}
+use Rattle.column_store.proofs.Common.{◌≡◌, ℕ, ◌-◌, ◌<◌, ◌≤◌, true, false, length, get_or}
 use Rattle.column_store.proofs.Numbers.{row_before}
 use Rattle.column_store.proofs.row_numbers.gap_of.Given as goal
 

@@ -1,4 +1,4 @@
-use Rattle.std.proofs.Common.{reverse, ◌∙◌}
+use Rattle.column_store.proofs.Common.{reverse, ◌∙◌}
 use Rattle.column_store.proofs.Gaps.{get_before, get_behind, behind_within, behind_some}
 use Rattle.column_store.proofs.row_order.number_at.Goals as goal
 

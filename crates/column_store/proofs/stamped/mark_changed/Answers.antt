@@ -1,6 +1,4 @@
-use Rattle.std.proofs.Common.{◌≡◌, ◌+◌, ◌-◌, sym, ap, ◌∙◌, arith}
-use Rattle.std.proofs.lemmas.List.{length-set}
-use Rattle.column_store.specs.Fields.{changed_stamp, changed_stamps}
+use Rattle.column_store.proofs.Common.{◌+◌, ◌-◌, ap, ◌∙◌, arith, length-set, changed_stamp}
 use Rattle.column_store.proofs.Fields.{stamps-more}
 use Rattle.column_store.proofs.Lists.{set-changed}
 use Rattle.column_store.proofs.stamped.mark_changed.Goals as goal
@@ -13,8 +11,3 @@ loop-i-preserved c = record {
       stamps-more c.args.tick c.args.from c.loop-i.i c.args.count c.loop-i.stamps.items _ _ c.loop-i-test.true
       (set-changed (changed_stamp c.args.tick) c.loop-i.stamps.items (c.args.from + c.loop-i.i) c.index_mut.result.now _ (omega arith) (ap (changed_stamp c.args.tick) c.index_mut.ensures.value)) c.loop-i.invariant.rest;
 }
-
-pub returns-clause-stamps : goal.returns-clause-stamps
-returns-clause-stamps c =
-    let none : c.args.count - c.loop-i.i ≡ 0 = omega arith in
-    ap (λ n. changed_stamps c.args.tick (c.args.from + c.loop-i.i) n c.loop-i.stamps.items) (sym none) ∙ c.loop-i.invariant.rest

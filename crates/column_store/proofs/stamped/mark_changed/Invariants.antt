@@ -1,5 +1,4 @@
-use Rattle.std.proofs.Common.{◌≡◌, ◌+◌, ◌-◌, length, vec_capacity}
-use Rattle.column_store.specs.Fields.{changed_stamps}
+use Rattle.column_store.proofs.Common.{◌≡◌, ◌+◌, ◌-◌, length, vec_capacity, changed_stamps}
 use Rattle.column_store.proofs.stamped.mark_changed.Given as goal
 
 abbrev pub invariant-loop-i : goal.invariant-loop-i

@@ -1,6 +1,4 @@
-use Rattle.std.proofs.Common.{map, sym, ap, ◌∙◌, arith}
-use Rattle.archetype_store.specs.Row.{component_of}
-use Rattle.archetype_store.specs.Storage.{row_in}
+use Rattle.archetype_store.proofs.Common.{map, sym, ap, ◌∙◌, arith, component_of, row_in}
 use Rattle.archetype_store.proofs.PlacedRow.{placed_within, row_below, row_home_there, components_of_row}
 use Rattle.archetype_store.proofs.PlacesAfterRowChange.{row_seen}
 use Rattle.archetype_store.proofs.TablesAfterRowChange.{on_both}
@@ -8,11 +6,8 @@ use Rattle.archetype_store.proofs.entity_rows.Rows.components.Goals as goal
 
 pub index-there-requires : goal.index-there-requires
 index-there-requires c =
-    let p = c.in-Some.place in
     let told = sym c.place.ensures ∙ c.in-Some.is in
-    let within = placed_within c.self.invariant c.args.self.now c.self.view_is c.args.index p told in
-    let same = c.self.inside.tables.ok.0 in
-    omega arith
+    omega (arith, placed_within c.self.invariant c.args.self.now c.self.view_is c.args.index c.in-Some.place told, c.self.inside.tables.ok.0)
 
 pub read-requires-clause-within : goal.read-requires-clause-within
 read-requires-clause-within c =
@@ -22,9 +17,8 @@ read-requires-clause-within c =
 
 pub read-requires-clause-home : goal.read-requires-clause-home
 read-requires-clause-home c =
-    let p = c.in-Some.place in
     let told = sym c.place.ensures ∙ c.in-Some.is in
-    row_home_there c.self.invariant c.args.self.now c.self.view_is c.args.index p told c.index-there.result.now c.index-there.ensures c.requires
+    row_home_there c.self.invariant c.args.self.now c.self.view_is c.args.index c.in-Some.place told c.index-there.result.now c.index-there.ensures c.requires
 
 pub returns-in-None : goal.returns-in-None
 returns-in-None c =

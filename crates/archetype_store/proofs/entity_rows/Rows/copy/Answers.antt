@@ -1,19 +1,15 @@
-use Rattle.std.proofs.Common.{map, sym, ap, subst, ◌∙◌}
-use Rattle.column_store.specs.Table.{owned}
-use Rattle.archetype_store.specs.Layout.{layout_of, AreAllHome}
-use Rattle.archetype_store.specs.Rows.{RowsValue}
-use Rattle.archetype_store.specs.Tables.{AreHome, AreAllAlike}
+use Rattle.archetype_store.proofs.Common.{map, sym, ap, subst, ◌∙◌, owned, layout_of, AreAllHome, RowsValue, AreHome, AreAllAlike}
 use Rattle.archetype_store.proofs.ColumnStandings.{home_tables}
 use Rattle.archetype_store.proofs.TableCopies.{copied_alike, copied_kept}
 use Rattle.archetype_store.proofs.entity_rows.Rows.copy.Goals as goal
 
 pub copied_tables-requires : goal.copied_tables-requires
 copied_tables-requires c =
-    subst AreHome (sym c.deref.ensures.value) (home_tables c.self.inside.tables.items c.self.invariant.stored.bare (subst (λ (v : RowsValue). AreAllHome (layout_of v.tables)) (sym c.self.view_is) c.requires))
+    subst AreHome (sym c.deref.ensures.value) (home_tables c.self.inside.tables.items c.self.invariant.stored.empty (subst (λ (v : RowsValue). AreAllHome (layout_of v.tables)) (sym c.self.view_is) c.requires))
 
 pub invariant_of-result : goal.invariant_of-result
 invariant_of-result c =
-    let home = home_tables c.self.inside.tables.items c.self.invariant.stored.bare (subst (λ (v : RowsValue). AreAllHome (layout_of v.tables)) (sym c.self.view_is) c.requires) in
+    let home = home_tables c.self.inside.tables.items c.self.invariant.stored.empty (subst (λ (v : RowsValue). AreAllHome (layout_of v.tables)) (sym c.self.view_is) c.requires) in
     let tables = c.in_ok-tables.ensures ∙ ap (map owned) c.deref.ensures.value in
     let places = c.in_ok-places.ensures.items ∙ c.as_slice.ensures.value in
     let numbers = c.in_ok-row_numbers.ensures.items ∙ c.as_slice-2.ensures.value in
@@ -21,7 +17,7 @@ invariant_of-result c =
 
 pub returns-clause-alike : goal.returns-clause-alike
 returns-clause-alike c =
-    let home = home_tables c.self.inside.tables.items c.self.invariant.stored.bare (subst (λ (v : RowsValue). AreAllHome (layout_of v.tables)) (sym c.self.view_is) c.requires) in
+    let home = home_tables c.self.inside.tables.items c.self.invariant.stored.empty (subst (λ (v : RowsValue). AreAllHome (layout_of v.tables)) (sym c.self.view_is) c.requires) in
     let tables = c.in_ok-tables.ensures ∙ ap (map owned) c.deref.ensures.value in
     let places = c.in_ok-places.ensures.items ∙ c.as_slice.ensures.value in
     let alike = copied_alike c.self.inside.tables.items c.in_ok-tables.tables.items c.self.inside.places.items c.in_ok-places.places.items tables places home in

@@ -1,9 +1,4 @@
-use Rattle.std.proofs.Common.{◌≡◌, ◌<◌, true, [], length, sym, ap, subst, ◌∙◌}
-use Rattle.std.proofs.lemmas.List.{get_or_default}
-use Rattle.model.specs.Lists.{is_there}
-use Rattle.column_store.specs.Table.{TableValue, empty_table, homed}
-use Rattle.archetype_store.specs.Rows.{RowsValue}
-use Rattle.archetype_store.specs.Tables.{table_at}
+use Rattle.archetype_store.proofs.Common.{◌≡◌, ◌<◌, true, [], length, sym, ap, subst, ◌∙◌, get_or_default, is_there, TableValue, empty_table, homed, RowsValue, table_at}
 use Rattle.archetype_store.proofs.RowsChanged.{homed_kept}
 use Rattle.archetype_store.proofs.entity_rows.Rows.home.Goals as goal
 

@@ -1,8 +1,5 @@
-use Rattle.std.proofs.Common.{[], length, sym, ap, subst, ◌∙◌}
-use Rattle.std.proofs.lemmas.List.{get_or_default}
-use Rattle.column_store.specs.Table.{TableValue, empty_table}
-use Rattle.archetype_store.specs.Rows.{RowsValue, with_row, CanJoin}
-use Rattle.archetype_store.specs.Tables.{AreOwned}
+use Rattle.archetype_store.proofs.Common.{[], length, sym, ap, subst, ◌∙◌, get_or_default, TableValue, empty_table, RowsValue, CanJoin, AreOwned}
+use Rattle.archetype_store.specs.Rows.{with_row}
 use Rattle.archetype_store.proofs.RowsChanged.{joined_kept}
 use Rattle.archetype_store.proofs.entity_rows.Rows.join.Goals as goal
 

@@ -1,11 +1,5 @@
-use Rattle.std.proofs.Common.{◌≡◌, ◌<◌, true, [], length, set, sym, ap, subst, ◌∙◌}
-use Rattle.std.proofs.lemmas.List.{get_or_default, set-get_or}
-use Rattle.std.proofs.lemmas.Result.{on_ok_weaker, on_err_weaker}
-use Rattle.kinds.specs.Kind.{kind_number}
-use Rattle.model.specs.Lists.{is_there}
-use Rattle.column_store.specs.Table.{TableValue, empty_table, lent}
-use Rattle.archetype_store.specs.Rows.{RowsValue}
-use Rattle.archetype_store.specs.Tables.{table_at}
+use Rattle.archetype_store.proofs.Common.{◌≡◌, ◌<◌, true, [], length, set, sym, ap, subst, ◌∙◌, get_or_default, on_ok_weaker, on_err_weaker, kind_number, is_there, TableValue, empty_table, lent, RowsValue, table_at}
+use Rattle.std.proofs.lemmas.List.{set-get_or}
 use Rattle.archetype_store.proofs.RowsChanged.{lent_kept}
 use Rattle.archetype_store.proofs.entity_rows.Rows.lend.Goals as goal
 

@@ -1,9 +1,4 @@
-use Rattle.std.proofs.Common.{◌≡◌, Some, sym, ap, ◌∙◌}
-use Rattle.std.proofs.lemmas.List.{get_or_read}
-use Rattle.archetype_store.specs.RowNumbers.{number_of_row}
-use Rattle.archetype_store.specs.Rows.{RowsValue}
-use Rattle.archetype_store.specs.Storage.{place_of}
-use Rattle.archetype_store.specs.Tables.{entity_in_row}
+use Rattle.archetype_store.proofs.Common.{◌≡◌, Some, sym, ap, ◌∙◌, get_or_read, number_of_row, RowsValue, place_of, entity_in_row}
 use Rattle.archetype_store.proofs.RowNumbers.{number_within}
 use Rattle.archetype_store.proofs.entity_rows.Rows.number.Goals as goal
 

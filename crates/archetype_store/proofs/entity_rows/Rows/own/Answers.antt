@@ -1,18 +1,15 @@
-use Rattle.std.proofs.Common.{false, rules, sym, subst}
-use Rattle.archetype_store.specs.Layout.{layout_of, AreAllHome}
-use Rattle.archetype_store.specs.Rows.{RowsValue}
-use Rattle.archetype_store.specs.Tables.{AreOwned}
+use Rattle.archetype_store.proofs.Common.{false, rules, sym, subst, layout_of, AreAllHome, RowsValue, AreOwned}
 use Rattle.archetype_store.proofs.ColumnStandings.{alike_self, home_tables, owned_are_unshared, unshared_are_owned}
 use Rattle.archetype_store.proofs.RowsChanged.{alike_kept}
 use Rattle.archetype_store.proofs.entity_rows.Rows.own.Goals as goal
 
 pub own_tables-requires : goal.own_tables-requires
 own_tables-requires c =
-    home_tables c.self.inside.tables.items c.self.invariant.stored.bare (subst (λ (v : RowsValue). AreAllHome (layout_of v.tables)) (sym c.self.view_is) c.requires)
+    home_tables c.self.inside.tables.items c.self.invariant.stored.empty (subst (λ (v : RowsValue). AreAllHome (layout_of v.tables)) (sym c.self.view_is) c.requires)
 
 pub returns-then-not-self-clause-ok : goal.returns-then-not-self-clause-ok
 returns-then-not-self-clause-ok c =
-    let home = home_tables c.self.inside.tables.items c.self.invariant.stored.bare (subst (λ (v : RowsValue). AreAllHome (layout_of v.tables)) (sym c.self.view_is) c.requires) in
+    let home = home_tables c.self.inside.tables.items c.self.invariant.stored.empty (subst (λ (v : RowsValue). AreAllHome (layout_of v.tables)) (sym c.self.view_is) c.requires) in
     subst (λ (v : RowsValue). AreOwned v.tables) c.self.view_is (unshared_are_owned c.self.inside.tables.items home (c.self.invariant.stored.unshared (search rules)))
 
 pub returns-then-not-self-clause-alike : goal.returns-then-not-self-clause-alike

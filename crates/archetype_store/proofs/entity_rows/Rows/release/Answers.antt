@@ -1,8 +1,4 @@
-use Rattle.std.proofs.Common.{[], ◌<◌, length, sym, ap, subst, ◌∙◌}
-use Rattle.std.proofs.lemmas.List.{get_or_default}
-use Rattle.column_store.specs.Table.{TableValue, empty_table}
-use Rattle.archetype_store.specs.Rows.{RowsValue}
-use Rattle.archetype_store.specs.Tables.{shape_of, AreOwned}
+use Rattle.archetype_store.proofs.Common.{[], ◌<◌, length, sym, ap, subst, ◌∙◌, get_or_default, TableValue, empty_table, RowsValue, shape_of, AreOwned}
 use Rattle.archetype_store.proofs.RowsChanged.{roomed_kept}
 use Rattle.archetype_store.proofs.entity_rows.Rows.release.Goals as goal
 

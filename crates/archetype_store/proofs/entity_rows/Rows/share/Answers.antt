@@ -1,8 +1,4 @@
-use Rattle.std.proofs.Common.{◌<◌, [], length, set, sym, subst, ◌∙◌}
-use Rattle.std.proofs.lemmas.List.{get_or_default}
-use Rattle.column_store.specs.Table.{TableValue, empty_table, IsAlike}
-use Rattle.archetype_store.specs.Rows.{RowsValue}
-use Rattle.archetype_store.specs.Tables.{AreAllAlike}
+use Rattle.archetype_store.proofs.Common.{◌<◌, [], length, set, sym, subst, ◌∙◌, get_or_default, TableValue, empty_table, IsAlike, RowsValue, AreAllAlike}
 use Rattle.archetype_store.proofs.ColumnStandings.{alike_set}
 use Rattle.archetype_store.proofs.RowsChanged.{alike_kept}
 use Rattle.archetype_store.proofs.entity_rows.Rows.share.Goals as goal

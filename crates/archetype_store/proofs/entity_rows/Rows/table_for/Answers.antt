@@ -1,6 +1,4 @@
-use Rattle.std.proofs.Common.{sym, subst}
-use Rattle.archetype_store.specs.Rows.{RowsValue}
-use Rattle.archetype_store.specs.Tables.{AreOwned}
+use Rattle.archetype_store.proofs.Common.{sym, subst, RowsValue, AreOwned}
 use Rattle.archetype_store.proofs.RowsChanged.{grown_kept}
 use Rattle.archetype_store.proofs.entity_rows.Rows.table_for.Goals as goal
 

@@ -1,4 +1,4 @@
-use Rattle.std.proofs.Common.{refl}
+use Rattle.archetype_store.proofs.Common.{refl}
 use Rattle.std.proofs.lemmas.Int.{to_z-of_z}
 use Rattle.archetype_store.proofs.ResourceWrites.{set-resource}
 use Rattle.archetype_store.proofs.resources.Resources.set.Goals as goal

@@ -1,7 +1,4 @@
-use Rattle.std.proofs.Common.{sym, ap, ◌∙◌}
-use Rattle.archetype_store.specs.Layout.{archetype_at}
-use Rattle.archetype_store.specs.Tables.{kinds_at, entities_at}
-use Rattle.archetype_store.specs.Store.{StoreValue}
+use Rattle.archetype_store.proofs.Common.{sym, ap, ◌∙◌, archetype_at, kinds_at, entities_at, StoreValue}
 use Rattle.archetype_store.proofs.ArchetypeColumns.{entities_there, kinds_there}
 use Rattle.archetype_store.proofs.store.World.archetype.Goals as goal
 

@@ -1,6 +1,4 @@
-use Rattle.std.proofs.Common.{◌∙◌, ap}
-use Rattle.std.proofs.lemmas.Result.{on_ok_weaker}
-use Rattle.archetype_store.specs.Store.{with_slots}
+use Rattle.archetype_store.proofs.Common.{◌∙◌, ap, on_ok_weaker, with_slots}
 use Rattle.archetype_store.proofs.OneChange.{one_changed}
 use Rattle.archetype_store.proofs.store.World.change_one.Goals as goal
 

@@ -1,8 +1,4 @@
-use Rattle.std.proofs.Common.{sym, ap, ◌∙◌}
-use Rattle.std.proofs.lemmas.Result.{on_ok_weaker}
-use Rattle.model.specs.state.Rows.{row_at}
-use Rattle.archetype_store.specs.Rows.{rows_seen}
-use Rattle.archetype_store.specs.Store.{StoreValue}
+use Rattle.archetype_store.proofs.Common.{sym, ap, ◌∙◌, on_ok_weaker, row_at, rows_seen, StoreValue}
 use Rattle.archetype_store.proofs.SlotRows.{row_at_slots}
 use Rattle.archetype_store.proofs.store.World.components.Goals as goal
 

@@ -1,4 +1,4 @@
-use Rattle.std.proofs.Common.{rules}
+use Rattle.archetype_store.proofs.Common.{rules}
 use Rattle.archetype_store.specs.declared.change.Fate.TheVariants as the
 use Rattle.archetype_store.proofs.OneChange.{can_change}
 use Rattle.archetype_store.proofs.store.World.despawn.Goals as goal

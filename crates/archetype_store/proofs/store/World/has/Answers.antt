@@ -1,10 +1,4 @@
-use Rattle.std.proofs.Common.{◌≡◌, true, None, cond, is_some, sym, ap, ◌∙◌, rules}
-use Rattle.kinds.specs.Kind.{kind_number}
-use Rattle.model.specs.state.Commands.{is_alive}
-use Rattle.model.specs.state.Rows.{cell_at, kinds_of, row_at}
-use Rattle.archetype_store.specs.Rows.{rows_seen}
-use Rattle.archetype_store.specs.Storage.{row_of}
-use Rattle.archetype_store.specs.Store.{StoreValue}
+use Rattle.archetype_store.proofs.Common.{◌≡◌, true, None, cond, is_some, sym, ap, ◌∙◌, rules, kind_number, is_alive, cell_at, kinds_of, row_at, rows_seen, row_of, StoreValue}
 use Rattle.archetype_store.proofs.SlotRows.{row_at_slots}
 use Rattle.archetype_store.proofs.store.World.has.Goals as goal
 

@@ -1,16 +1,6 @@
-use Rattle.std.proofs.Common.{◌≡◌, ◌≤◌, nat_lt, map, length, ap, ap₂, sym, ◌∙◌, arith}
-use Rattle.std.specs.Prelude.{sum_by}
-use Rattle.std.specs.List.{AllByRecursion, list_any}
-use Rattle.model.specs.state.State.{most_indices}
-use Rattle.entity_table.specs.Ids.{living_count}
+use Rattle.archetype_store.proofs.Common.{◌≡◌, ◌≤◌, nat_lt, map, length, ap, ap₂, sym, ◌∙◌, arith, sum_by, AllByRecursion, list_any, most_indices, living_count, numbers_with, first_numbers, lives_empty, entity_count, StoreValue, slots_seen, rows_seen, row_of, kinds_seen, entities_seen}
 use Rattle.entity_table.proofs.Counting.{count-alike, count-length}
-use Rattle.archetype_store.specs.LivingSets.{numbers_with, first_numbers, is_bare, entity_count}
-use Rattle.archetype_store.specs.Store.{StoreValue}
-use Rattle.archetype_store.specs.Inside.{slots_seen}
-use Rattle.archetype_store.specs.Rows.{rows_seen}
-use Rattle.archetype_store.specs.Storage.{row_of}
 use Rattle.entity_table.proofs.WithRows.{lives_at-with_rows}
-use Rattle.archetype_store.specs.View.{kinds_seen, entities_seen}
 use Rattle.archetype_store.proofs.EmptyEntityCount.{AreOthers, entities_of, entities_seen_are, laid_living, more_live, others_seen}
 use Rattle.archetype_store.proofs.LivingSets.{living_sets}
 use Rattle.archetype_store.proofs.store.World.kind_sets.Goals as goal
@@ -41,12 +31,11 @@ returns c =
     let book = c.self.inside.ids in
     let v = c.self.inside.rows in
     let slots = c.args.self.now.state.slots in
-    let layout = c.args.self.now.layout in
-    let without : nat_lt c.entities_in.result c.living-living.result ≡ list_any is_bare slots =
+    let without : nat_lt c.entities_in.result c.living-living.result ≡ list_any lives_empty slots =
     ap₂ nat_lt (c.entities_in.ensures ∙ counted a) (c.living-living.ensures ∙ sym (count-alike (slots_seen book v) book (lives_at-with_rows (row_of (rows_seen v).rows) book)) ∙ ap (λ (w : StoreValue). living_count w.state.slots) c.self.view_is)
-    ∙ more_live slots layout c.prove_laid.ensures (others a) in
+    ∙ more_live slots c.args.self.now.layout c.prove_laid.ensures (others a) in
     c.in_ok-sets.ensures
     ∙ ap₂ numbers_with
     (ap (map kinds_seen) c.deref-2.ensures.value ∙ c.in_ok-views.ensures.kinds)
     (ap first_numbers without)
-    ∙ living_sets slots layout c.prove_laid.ensures
+    ∙ living_sets slots c.args.self.now.layout c.prove_laid.ensures

@@ -1,9 +1,5 @@
-use Rattle.std.proofs.Common.{ap, sym, ◌∙◌}
-use Rattle.model.specs.state.Commands.{is_alive}
+use Rattle.archetype_store.proofs.Common.{ap, sym, ◌∙◌, is_alive, row_of, rows_seen, StoreValue}
 use Rattle.entity_table.proofs.WithRows.{is_alive-with_rows}
-use Rattle.archetype_store.specs.Storage.{row_of}
-use Rattle.archetype_store.specs.Rows.{rows_seen}
-use Rattle.archetype_store.specs.Store.{StoreValue}
 use Rattle.archetype_store.proofs.store.World.lives.Goals as goal
 
 pub returns : goal.returns

@@ -1,6 +1,5 @@
-use Rattle.std.proofs.Common.{ap}
+use Rattle.archetype_store.proofs.Common.{ap, StoreValue}
 use Rattle.entity_table.proofs.WithRows.{lives_at-with_rows, is_alive-with_rows}
-use Rattle.archetype_store.specs.Store.{StoreValue}
 use Rattle.archetype_store.proofs.store.World.next_living.Goals as goal
 
 pub returns-clause-lives : goal.returns-clause-lives

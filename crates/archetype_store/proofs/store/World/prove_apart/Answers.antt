@@ -1,7 +1,4 @@
-use Rattle.std.proofs.Common.{subst}
-use Rattle.std.specs.List.{AllByRecursion}
-use Rattle.column_store.specs.Order.{AreApart}
-use Rattle.archetype_store.specs.Store.{StoreValue}
+use Rattle.archetype_store.proofs.Common.{subst, AllByRecursion, AreApart, StoreValue}
 use Rattle.archetype_store.proofs.RowNumbers.{layout_apart}
 use Rattle.archetype_store.proofs.store.World.prove_apart.Goals as goal
 

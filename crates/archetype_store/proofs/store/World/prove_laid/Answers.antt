@@ -1,7 +1,4 @@
-use Rattle.std.proofs.Common.{subst}
-use Rattle.archetype_store.specs.Layout.{IsLayoutOf}
-use Rattle.archetype_store.specs.Rows.{rows_seen}
-use Rattle.archetype_store.specs.Store.{StoreValue}
+use Rattle.archetype_store.proofs.Common.{subst, IsLayoutOf, rows_seen, StoreValue}
 use Rattle.archetype_store.proofs.TableLayouts.{laid_out, slots_laid}
 use Rattle.archetype_store.proofs.store.World.prove_laid.Goals as goal
 

@@ -1,17 +1,9 @@
-use Rattle.std.proofs.Common.{◌≡◌, ℕ, ◌++◌, [], ◌∷◌, List, length, sym, ap, ◌∙◌, arith, rules}
-use Rattle.model.specs.state.State.{Slot, most_indices}
+use Rattle.archetype_store.proofs.Common.{◌≡◌, ℕ, ◌++◌, [], ◌∷◌, List, length, sym, ap, ◌∙◌, arith, rules, Slot, most_indices, empty_slot, widths, with_rows, slots_seen, HasRows, RowsValue, rows_seen, row_of, StoreValue}
 use Rattle.entity_table.specs.declared.status.Status.{Status}
-use Rattle.entity_table.specs.Status.{empty_slot}
 use Rattle.entity_table.proofs.WithRows.{length-with_rows}
 use Rattle.archetype_store.proofs.NewSlots.{alive-pushed, with_rows-pushed, world-pushed}
-use Rattle.archetype_store.proofs.SlotRows.{past_bare}
+use Rattle.archetype_store.proofs.SlotRows.{past_empty}
 use Rattle.archetype_store.proofs.store.World.push_slot.Goals.{After-push}
-use Rattle.kinds.specs.Components.{widths}
-use Rattle.entity_table.specs.Rows.{with_rows}
-use Rattle.archetype_store.specs.Inside.{slots_seen, HasRows}
-use Rattle.archetype_store.specs.Rows.{RowsValue, rows_seen}
-use Rattle.archetype_store.specs.Storage.{row_of}
-use Rattle.archetype_store.specs.Store.{StoreValue}
 use Rattle.archetype_store.proofs.StoreKept.{book_kept, store_state, less_than}
 use Rattle.archetype_store.proofs.store.World.push_slot.Goals as goal
 
@@ -21,7 +13,7 @@ same_length c = sym (length-with_rows (row_of (rows_seen c.self.inside.rows).row
 
 slots : (generation : ℕ) (status : Status) (book new : List Slot) (v : RowsValue) → HasRows book (rows_seen v) → new ≡ book ++ empty_slot generation status ∷ [] → slots_seen new v ≡ slots_seen book v ++ empty_slot generation status ∷ []
 slots generation status book new v held done =
-    ap (with_rows (row_of (rows_seen v).rows)) done ∙ with_rows-pushed (row_of (rows_seen v).rows) book generation status (past_bare book (rows_seen v) held (length book) (omega arith))
+    ap (with_rows (row_of (rows_seen v).rows)) done ∙ with_rows-pushed (row_of (rows_seen v).rows) book generation status (past_empty book (rows_seen v) held (length book) (omega arith))
 
 pub invariant_of-self-2 : goal.invariant_of-self-2
 invariant_of-self-2 c =

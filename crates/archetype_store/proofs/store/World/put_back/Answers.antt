@@ -1,5 +1,4 @@
-use Rattle.std.proofs.Common.{sym, ap, subst, ◌∙◌}
-use Rattle.archetype_store.specs.Lending.{CanComeHome, all_home}
+use Rattle.archetype_store.proofs.Common.{sym, ap, subst, ◌∙◌, CanComeHome, all_home}
 use Rattle.archetype_store.proofs.ColumnLoans.{all_home-append, can_come-append}
 use Rattle.archetype_store.proofs.store.World.put_back.Goals as goal
 

@@ -1,5 +1,4 @@
-use Rattle.std.proofs.Common.{◌≡◌, vec_len}
-use Rattle.archetype_store.specs.Lending.{CanComeHome, all_home}
+use Rattle.archetype_store.proofs.Common.{◌≡◌, vec_len, CanComeHome, all_home}
 use Rattle.archetype_store.proofs.store.World.put_back.Given as goal
 
 -- what is left comes home to what is there

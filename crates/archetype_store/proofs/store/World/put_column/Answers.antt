@@ -1,33 +1,18 @@
-use Rattle.std.proofs.Common.{◌≡◌, false, length, Some, refl, sym, ap, ap₂, subst, ◌∙◌}
-use Rattle.std.specs.List.{AllByRecursion}
-use Rattle.std.proofs.lemmas.List.{length-map}
-use Rattle.column_store.specs.Table.{TableRow, homed}
-use Rattle.archetype_store.specs.Layout.{layout_of, archetype_at, column_home}
-use Rattle.archetype_store.specs.Storage.{IsFilled}
-use Rattle.archetype_store.specs.Store.{homed_in, slots_with, IsPast}
-use Rattle.archetype_store.specs.TableIndex.{IsIndexed}
-use Rattle.archetype_store.specs.Tables.{table_at}
-use Rattle.archetype_store.proofs.ArchetypeColumns.{away_there, entities_there, no_column, there_filled, value_homed}
+use Rattle.archetype_store.proofs.Common.{false, length, refl, sym, ap, ap₂, subst, ◌∙◌, AllByRecursion, length-map, TableRow, homed, layout_of, archetype_at, IsFilled, homed_in, slots_with, IsPast, IsIndexed, table_at, widths, RowsValue, rows_seen, StoreValue}
+use Rattle.archetype_store.proofs.ArchetypeColumns.{away_there, entities_there, there_filled, value_homed}
 use Rattle.archetype_store.proofs.ColumnSlots.{rows_homed, slots_homed, world_homed}
 use Rattle.archetype_store.proofs.TableIndex.{set_indexed}
-use Rattle.kinds.specs.Components.{widths}
-use Rattle.archetype_store.specs.Rows.{RowsValue, rows_seen}
-use Rattle.archetype_store.specs.Store.{StoreValue}
 use Rattle.archetype_store.proofs.StoreKept.{store_kept, store_state}
+use Rattle.archetype_store.proofs.StoreColumns.{column_is, column_there}
 use Rattle.archetype_store.proofs.store.World.put_column.Goals as goal
 
 pub unreachable-requires : goal.unreachable-requires
-unreachable-requires c =
-    let T = c.self.inside.rows.tables in
-    let home : column_home (archetype_at (layout_of T) c.args.archetype) c.args.column.kind ≡ Some false = ap (λ (v : StoreValue). column_home (archetype_at v.layout c.args.archetype) c.args.column.kind) c.self.view_is ∙ c.requires.away in
-    no_column (layout_of T) c.args.archetype c.args.column.kind false (c.in_default.ensures T c.self.invariant.indexed) home
+unreachable-requires c = column_there c.self.invariant c.args.self.now c.self.view_is c.args.archetype c.args.column.kind false c.requires.away (c.in_default.ensures c.self.inside.rows.tables c.self.invariant.indexed)
 
 pub home-requires-clause-away : goal.home-requires-clause-away
 home-requires-clause-away c =
     let T = c.self.inside.rows.tables in
-    let at = c.in-Some.ensures T c.self.invariant.indexed in
-    let home : column_home (archetype_at (layout_of T) c.args.archetype) c.args.column.kind ≡ Some false = ap (λ (v : StoreValue). column_home (archetype_at v.layout c.args.archetype) c.args.column.kind) c.self.view_is ∙ c.requires.away in
-    away_there T c.args.archetype c.in-Some.table at c.args.column.kind home
+    away_there T c.args.archetype c.in-Some.table (c.in-Some.ensures T c.self.invariant.indexed) c.args.column.kind (column_is c.self.invariant c.args.self.now c.self.view_is c.args.archetype c.args.column.kind false c.requires.away)
 
 pub home-requires-clause-same_length : goal.home-requires-clause-same_length
 home-requires-clause-same_length c =

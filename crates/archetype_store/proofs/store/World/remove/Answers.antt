@@ -1,10 +1,4 @@
-use Rattle.std.proofs.Common.{◌≡◌, true, false, map, is_some, ap, ◌∙◌, rules}
-use Rattle.kinds.specs.Kind.{kind_number}
-use Rattle.model.specs.state.Rows.{remove_component}
-use Rattle.model.specs.state.Commands.{is_alive}
-use Rattle.archetype_store.specs.Row.{component_of}
-use Rattle.archetype_store.specs.Slot.{cell_of}
-use Rattle.archetype_store.specs.Store.{with_slots}
+use Rattle.archetype_store.proofs.Common.{◌≡◌, true, false, map, is_some, ap, ◌∙◌, rules, kind_number, remove_component, is_alive, component_of, cell_of, with_slots}
 use Rattle.archetype_store.specs.declared.change.Fate.TheVariants as the
 use Rattle.archetype_store.proofs.OneChange.{can_remove, slots_with_row, slots_without}
 use Rattle.archetype_store.proofs.store.World.remove.Goals as goal
@@ -19,10 +13,9 @@ returns-then-not-has-clause-ok c =
 
 pub change_one-requires-clause-can : goal.change_one-requires-clause-can
 change_one-requires-clause-can c =
-    let w = c.args.self.now.state in
     let kind = kind_number c.args.kind in
-    let alive : is_alive w.slots c.args.e ≡ true = search rules in
-    can_remove w c.args.e alive c.prove_shape.ensures (the.Lives c.take_component.new.components) kind
+    let alive : is_alive c.args.self.now.state.slots c.args.e ≡ true = search rules in
+    can_remove c.args.self.now.state c.args.e alive c.prove_shape.ensures (the.Lives c.take_component.new.components) kind
     (c.take_component.ensures ∙ ap (λ k. remove_component k (map component_of c.in_ok-row.row.items)) c.number.ensures ∙ ap (remove_component kind) c.in_ok-row.ensures)
 
 pub returns-clause-ok : goal.returns-clause-ok

@@ -1,12 +1,4 @@
-use Rattle.std.proofs.Common.{◌≡◌, Some, is_some, refl, sym, ap, ◌∙◌}
-use Rattle.std.specs.Prelude.{slice_get}
-use Rattle.model.specs.Lists.{is_there}
-use Rattle.model.specs.state.Rows.{row_at}
-use Rattle.model.specs.declared.entities.Entity.{Entity}
-use Rattle.archetype_store.specs.Layout.{archetype_at, layout_of}
-use Rattle.archetype_store.specs.Rows.{rows_seen}
-use Rattle.archetype_store.specs.Store.{StoreValue}
-use Rattle.archetype_store.specs.Tables.{number_of}
+use Rattle.archetype_store.proofs.Common.{◌≡◌, Some, is_some, refl, sym, ap, ◌∙◌, slice_get, is_there, row_at, Entity, archetype_at, layout_of, rows_seen, StoreValue, number_of}
 use Rattle.archetype_store.proofs.RowsHeld.{there_if_placed}
 use Rattle.archetype_store.proofs.RowsOfArchetypes.{number_known, stands_there}
 use Rattle.archetype_store.proofs.SlotRows.{row_at_slots}

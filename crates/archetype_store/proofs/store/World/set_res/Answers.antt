@@ -1,5 +1,4 @@
-use Rattle.std.proofs.Common.{◌≤◌, ap, arith}
-use Rattle.kinds.specs.Components.{widths}
+use Rattle.archetype_store.proofs.Common.{◌≤◌, ap, arith, widths}
 use Rattle.archetype_store.proofs.WorldShape.{world-set}
 use Rattle.archetype_store.proofs.store.World.set_res.Goals as goal
 

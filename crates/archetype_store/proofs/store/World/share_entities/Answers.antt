@@ -1,17 +1,6 @@
-use Rattle.std.proofs.Common.{◌≡◌, ◌≤◌, ◌<◌, length, IfOk, subst, ◌∙◌, sym, arith}
-use Rattle.std.specs.Arc.{arc_value}
-use Rattle.std.proofs.lemmas.Result.{IfOk-weaker}
-use Rattle.archetype_store.specs.Layout.{layout_of, archetype_at}
-use Rattle.archetype_store.specs.Store.{StoreValue}
+use Rattle.archetype_store.proofs.Common.{◌≡◌, IfOk, subst, ◌∙◌, sym, arc_value, IfOk-weaker, archetype_at, StoreValue}
 use Rattle.archetype_store.proofs.ArchetypeColumns.{entities_there}
 use Rattle.archetype_store.proofs.store.World.share_entities.Goals as goal
-
-pub unreachable-requires : goal.unreachable-requires
-unreachable-requires c =
-    let T = c.self.inside.rows.tables in
-    let past : length (layout_of T) ≤ c.args.archetype = c.in_default.ensures T c.self.invariant.indexed in
-    let within : c.args.archetype < length (layout_of T) = subst (λ (v : StoreValue). c.args.archetype < length v.layout) (sym c.self.view_is) c.requires in
-    absurd (omega arith)
 
 pub returns-clause-entities : goal.returns-clause-entities
 returns-clause-entities c =

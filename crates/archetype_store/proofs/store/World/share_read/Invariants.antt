@@ -1,6 +1,4 @@
-use Rattle.std.proofs.Common.{◌≡◌, ◌≤◌, take, length, vec_len}
-use Rattle.std.specs.Prelude.{vec_capacity}
-use Rattle.archetype_store.specs.Lending.{AreShared}
+use Rattle.archetype_store.proofs.Common.{◌≡◌, ◌≤◌, take, length, vec_len, vec_capacity, AreShared}
 use Rattle.archetype_store.proofs.store.World.share_read.Given as goal
 
 -- the columns so far are shared, and there is room for all

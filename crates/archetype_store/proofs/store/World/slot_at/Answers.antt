@@ -1,9 +1,5 @@
-use Rattle.std.proofs.Common.{◌≡◌, ap, sym, ◌∙◌}
-use Rattle.entity_table.specs.Ids.{slot_at}
+use Rattle.archetype_store.proofs.Common.{◌≡◌, ap, sym, ◌∙◌, slot_at, row_of, rows_seen, StoreValue}
 use Rattle.entity_table.proofs.WithRows.{status-with_rows, generation-with_rows}
-use Rattle.archetype_store.specs.Storage.{row_of}
-use Rattle.archetype_store.specs.Rows.{rows_seen}
-use Rattle.archetype_store.specs.Store.{StoreValue}
 use Rattle.archetype_store.proofs.store.World.slot_at.Goals as goal
 
 pub returns : goal.returns

@@ -1,8 +1,5 @@
-use Rattle.std.proofs.Common.{length, ap, sym, ◌∙◌}
+use Rattle.archetype_store.proofs.Common.{length, ap, sym, ◌∙◌, row_of, rows_seen, StoreValue}
 use Rattle.entity_table.proofs.WithRows.{length-with_rows}
-use Rattle.archetype_store.specs.Storage.{row_of}
-use Rattle.archetype_store.specs.Rows.{rows_seen}
-use Rattle.archetype_store.specs.Store.{StoreValue}
 use Rattle.archetype_store.proofs.store.World.slot_count.Goals as goal
 
 pub returns : goal.returns

@@ -1,26 +1,11 @@
-use Rattle.std.proofs.Common.{◌≡◌, ◌<◌, ◌∷◌, [], length, map, ap, sym, subst, ◌∙◌, arith, rules}
-use Rattle.model.specs.state.Ids.{has_ids, granted_ids, grant}
-use Rattle.model.specs.sessions.Inputs.{next_id}
+use Rattle.archetype_store.proofs.Common.{◌≡◌, ◌<◌, ◌∷◌, [], length, map, ap, sym, subst, ◌∙◌, arith, rules, has_ids, granted_ids, grant, next_id, IsGranted, with_rows, EntityChange, book_changed, with_new, component_of, row_of, IsHolder, HasRows, AllByRecursion, true_from_ne_false, widths, IsComponent, rows_seen, StoreValue}
 use Rattle.model.proofs.shape.GivenIds.{length-granted}
-use Rattle.entity_table.specs.Ids.{IsGranted}
-use Rattle.entity_table.specs.Rows.{with_rows}
 use Rattle.entity_table.proofs.Living.{alive-grant}
 use Rattle.entity_table.proofs.WithRows.{has_ids-with_rows}
 use Rattle.archetype_store.specs.declared.change.Fate.TheVariants as the
-use Rattle.archetype_store.specs.declared.change.EntityChange.{EntityChange}
-use Rattle.archetype_store.specs.Changes.{book_changed, with_new}
-use Rattle.archetype_store.specs.Row.{component_of}
-use Rattle.archetype_store.specs.Storage.{row_of, IsHolder}
-use Rattle.archetype_store.specs.Inside.{HasRows}
-use Rattle.std.specs.List.{AllByRecursion}
-use Rattle.std.proofs.lemmas.Bool.{true_from_ne_false}
-use Rattle.kinds.specs.Components.{widths}
-use Rattle.model.specs.state.Shape.{IsComponent}
 use Rattle.archetype_store.proofs.PlacesAfterRowChange.{holder_seen}
 use Rattle.archetype_store.proofs.StoreKept.{store_kept, store_state}
 use Rattle.archetype_store.proofs.WorldShape.{world-new}
-use Rattle.archetype_store.specs.Rows.{rows_seen}
-use Rattle.archetype_store.specs.Store.{StoreValue}
 use Rattle.archetype_store.proofs.NewEntity.{alone, id_next, granted_held, slots_new}
 use Rattle.archetype_store.proofs.BookChanges.{rows_settled, below_left}
 use Rattle.archetype_store.proofs.SlotRows.{holder_there, rows-kept}
@@ -40,9 +25,8 @@ id_is c =
 -- it is granted
 granted : (c : After-index-entity) → IsGranted c.grant.new.self c.index-entity.result.now
 granted c =
-    let e = c.index-entity.result.now in
     let one : 0 < length c.in_ok-granted.granted.items = omega (arith, ap length c.in_ok-granted.ensures.ok, length-granted 1 c.self.inside.ids) in
-    subst (IsGranted c.grant.new.self) (sym c.index-entity.ensures) (c.in_ok-granted.ensures.each 0 e one)
+    subst (IsGranted c.grant.new.self) (sym c.index-entity.ensures) (c.in_ok-granted.ensures.each 0 c.index-entity.result.now one)
 
 -- the rows of the book after the grant
 kept : (c : After-index-entity) → HasRows c.grant.new.self (rows_seen c.self.inside.rows)
@@ -103,15 +87,13 @@ returns-in-Ok-clause-id c =
 pub returns-in-Ok-clause-ok : goal.returns-in-Ok-clause-ok
 returns-in-Ok-clause-ok c =
     let a = (goal.at.returns-in-Ok-clause-ok c).After-index-entity in
-    let book = c.self.inside.ids in
-    let v = c.self.inside.rows in
     let u = c.change_rows.new.rows in
     let e = c.index-entity.result.now in
     let fate = the.Lives c.args.components in
     let row = map component_of c.args.components.items in
     let change : EntityChange = record { entity = e; fate = fate } in
     let is = ap (with_rows (row_of (rows_seen u).rows)) (c.settle_all.ensures ∙ ap (book_changed (change ∷ [])) c.in_ok-granted.ensures.granted)
-    ∙ slots_new book (rows_seen v) (rows_seen u) e fate c.self.invariant.held (id_is a) c.in-Ok.ensures.ok in
+    ∙ slots_new c.self.inside.ids (rows_seen c.self.inside.rows) (rows_seen u) e fate c.self.invariant.held (id_is a) c.in-Ok.ensures.ok in
     store_state c.self.invariant (with_new row) c.settle_all.new.book u is _ c.self.view_is
 
 pub returns-in-Ok-clause-spent : goal.returns-in-Ok-clause-spent

@@ -1,16 +1,5 @@
-use Rattle.std.proofs.Common.{◌≡◌, ◌+◌, [], get_or, take, Some, true, false, refl, sym, ap, subst, ◌∙◌, arith}
-use Rattle.std.proofs.lemmas.List.{get_or_default, take_all}
-use Rattle.kinds.specs.declared.kind.Kind.TheVariants.{Position}
-use Rattle.kinds.specs.Kind.{kind_number}
-use Rattle.archetype_store.specs.declared.columns.ColumnAt.{ColumnAt}
-use Rattle.archetype_store.specs.declared.columns.TakenColumn.{TakenColumn}
-use Rattle.archetype_store.specs.Layout.{archetype_at, column_home, with_home}
-use Rattle.archetype_store.specs.Slot.{column_cells}
-use Rattle.archetype_store.specs.Store.{StoreValue}
-use Rattle.archetype_store.specs.Lending.{CanComeHome, AreTaken, all_away, all_home}
+use Rattle.archetype_store.proofs.Common.{◌≡◌, ◌+◌, get_or, take, Some, true, false, refl, sym, ap, subst, ◌∙◌, arith, get_or_default, take_all, Position, kind_number, ColumnAt, TakenColumn, archetype_at, column_home, with_home, column_cells, StoreValue, CanComeHome, AreTaken, all_away, all_home}
 use Rattle.archetype_store.proofs.ColumnLoans.{back_again, can_next, can_take, away_next, taken_next}
-use Rattle.std.proofs.lemmas.Result.{IfOk-from_err}
-use Rattle.column_store.proofs.Turns.{on_err_from}
 use Rattle.archetype_store.proofs.store.World.take_written.Goals as goal
 
 pub take_column-requires : goal.take_column-requires
@@ -61,31 +50,6 @@ loop-at-preserved c =
       room = omega (arith, c.push_reserved.ensures.capacity, c.loop-at.invariant.room);
     }
 
-pub returns-in_err-reserve-clause-taken : goal.returns-in_err-reserve-clause-taken
-returns-in_err-reserve-clause-taken c = IfOk-from_err c.from_residual.result _ c.from_residual.ensures.0
-
-pub returns-in_err-reserve-clause-away : goal.returns-in_err-reserve-clause-away
-returns-in_err-reserve-clause-away c = IfOk-from_err c.from_residual.result _ c.from_residual.ensures.0
-
-pub returns-in_err-reserve-clause-err : goal.returns-in_err-reserve-clause-err
-returns-in_err-reserve-clause-err c = on_err_from _ _ refl
-
-pub returns-in-Err-clause-taken : goal.returns-in-Err-clause-taken
-returns-in-Err-clause-taken c = tt
-
-pub returns-in-Err-clause-away : goal.returns-in-Err-clause-away
-returns-in-Err-clause-away c = tt
-
-pub loop-at-init : goal.loop-at-init
-loop-at-init c =
-    let world = c.args.self.now in
-    record {
-      away = refl;
-      taken = subst (AreTaken world.state.slots world.layout []) (sym (c.in_ok-reserve.ensures.items ∙ c.clear.ensures.items)) tt;
-      many = omega (arith, c.in_ok-reserve.ensures.len, c.clear.ensures.len);
-      room = omega (arith, c.in_ok-reserve.ensures.ok, c.clear.ensures.len);
-    }
-
 pub returns-clause-taken : goal.returns-clause-taken
 returns-clause-taken c =
     let world = c.args.self.now in
@@ -95,6 +59,3 @@ pub returns-clause-away : goal.returns-clause-away
 returns-clause-away c =
     let world = c.args.self.now in
     c.loop-at.invariant.away ∙ ap (λ ps. let v : StoreValue = record { state = world.state; layout = all_away ps world.layout } in v) (take_all c.loop-at.at-index c.args.columns.now c.loop-at-test.false)
-
-pub returns-clause-err : goal.returns-clause-err
-returns-clause-err c = tt

@@ -1,6 +1,4 @@
-use Rattle.std.proofs.Common.{◌≡◌, ◌≤◌, take, length, vec_len}
-use Rattle.std.specs.Prelude.{vec_capacity}
-use Rattle.archetype_store.specs.Lending.{AreTaken, all_away}
+use Rattle.archetype_store.proofs.Common.{◌≡◌, ◌≤◌, take, length, vec_len, vec_capacity, AreTaken, all_away}
 use Rattle.archetype_store.proofs.store.World.take_written.Given as goal
 
 -- the columns so far are taken, and there is room for all

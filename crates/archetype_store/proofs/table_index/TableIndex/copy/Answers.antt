@@ -1,7 +1,4 @@
-use Rattle.std.proofs.Common.{◌≤◌, ◌++◌, ℕ, List, Option, length, map, ap, ap₂, ◌∙◌, arith}
-use Rattle.std.specs.Prelude.{vec_capacity}
-use Rattle.archetype_store.specs.declared.table_index.TableIndex.{TableIndex}
-use Rattle.archetype_store.specs.Shapes.{kept_seen}
+use Rattle.archetype_store.proofs.Common.{◌≤◌, ◌++◌, ℕ, List, Option, length, map, ap, ap₂, ◌∙◌, arith, vec_capacity, TableIndex, kept_seen}
 use Rattle.archetype_store.proofs.TableIndex.{found_other}
 use Rattle.archetype_store.proofs.table_index.TableIndex.copy.Goals as goal
 

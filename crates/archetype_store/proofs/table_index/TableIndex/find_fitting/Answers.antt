@@ -1,5 +1,4 @@
-use Rattle.std.proofs.Common.{ap₂, ◌∙◌}
-use Rattle.archetype_store.specs.Shapes.{numbered}
+use Rattle.archetype_store.proofs.Common.{ap₂, ◌∙◌, numbered}
 use Rattle.archetype_store.proofs.FittingTables.{archetypes_fitting}
 use Rattle.archetype_store.proofs.table_index.TableIndex.find_fitting.Goals as goal
 

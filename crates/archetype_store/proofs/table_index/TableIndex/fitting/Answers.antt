@@ -1,6 +1,4 @@
-use Rattle.std.proofs.Common.{◌<◌, List, length, get_or, ap, ◌∙◌, subst}
-use Rattle.archetype_store.specs.declared.shapes.KeptShape.{KeptShape}
-use Rattle.archetype_store.specs.Shapes.{fitting_tables}
+use Rattle.archetype_store.proofs.Common.{◌<◌, List, length, get_or, ap, ◌∙◌, subst, KeptShape, fitting_tables}
 use Rattle.archetype_store.proofs.FittingTables.{listed_there}
 use Rattle.archetype_store.proofs.table_index.TableIndex.fitting.Goals as goal
 

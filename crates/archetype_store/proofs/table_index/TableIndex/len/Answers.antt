@@ -1,4 +1,4 @@
-use Rattle.std.proofs.Common.{length, ap, ◌∙◌}
+use Rattle.archetype_store.proofs.Common.{length, ap, ◌∙◌}
 use Rattle.archetype_store.proofs.TableIndex.{peopled_many}
 use Rattle.archetype_store.proofs.table_index.TableIndex.len.Goals as goal
 

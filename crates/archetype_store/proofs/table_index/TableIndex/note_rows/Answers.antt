@@ -1,9 +1,4 @@
-use Rattle.std.proofs.Common.{◌≡◌, ◌+◌, suc, drop, ◌++◌, ◌∷◌, [], ◌==◌, ℕ, List, Option, Some, length, map, sym, ap, ◌∙◌, arith}
-use Rattle.std.specs.Prelude.{vec_len}
-use Rattle.column_store.specs.Table.{TableRow}
-use Rattle.archetype_store.specs.Shapes.{numbers_from, kept_seen}
-use Rattle.archetype_store.specs.TableIndex.{peopled_from}
-use Rattle.archetype_store.specs.TableWords.{told_table}
+use Rattle.archetype_store.proofs.Common.{◌≡◌, ◌+◌, suc, drop, ◌++◌, ◌∷◌, [], ◌==◌, ℕ, List, Option, Some, length, map, sym, ap, ◌∙◌, arith, vec_len, TableRow, numbers_from, kept_seen, peopled_from, told_table}
 use Rattle.archetype_store.proofs.TableLayouts.{no_rows, some_rows}
 use Rattle.archetype_store.proofs.FittingTables.{number_none, number_some, numbers_all}
 use Rattle.archetype_store.proofs.TableIndex.{named_none, named_next, named_all, found_other}
@@ -25,15 +20,6 @@ loop-number-preserved-then-is_empty c =
       shapes = i.shapes;
       words = i.words;
     }
-
-pub push_reserved-requires : goal.push_reserved-requires
-push_reserved-requires c = let i = c.loop-number.invariant in omega (arith, i.few_numbers, i.room_numbers, c.loop-number-test.true)
-
-pub push_reserved-requires-in-loop-number : goal.push_reserved-requires-in-loop-number
-push_reserved-requires-in-loop-number c = let i = c.loop-number.invariant in omega (arith, i.few_numbers, i.room_numbers, c.loop-number-test.true)
-
-pub push_reserved-requires-in-loop-number-2 : goal.push_reserved-requires-in-loop-number-2
-push_reserved-requires-in-loop-number-2 c = let i = c.loop-number.invariant in omega (arith, i.few, i.room, c.loop-number-test.true)
 
 pub loop-number-preserved : goal.loop-number-preserved
 loop-number-preserved c =

@@ -1,7 +1,4 @@
-use Rattle.std.proofs.Common.{◌≡◌, ◌≤◌, ◌++◌, drop, length}
-use Rattle.std.specs.Prelude.{vec_len, vec_capacity}
-use Rattle.archetype_store.specs.Shapes.{numbers_from}
-use Rattle.archetype_store.specs.TableIndex.{peopled_from}
+use Rattle.archetype_store.proofs.Common.{◌≡◌, ◌≤◌, ◌++◌, drop, length, vec_len, vec_capacity, numbers_from, peopled_from}
 use Rattle.archetype_store.proofs.table_index.TableIndex.note_rows.Given as goal
 
 -- those so far are named

@@ -1,4 +1,4 @@
-use Rattle.std.proofs.Common.{length, refl, sym, arith}
+use Rattle.archetype_store.proofs.Common.{length, refl, sym, arith}
 use Rattle.std.proofs.lemmas.Option.{slice_get_read, slice_get_past}
 use Rattle.archetype_store.proofs.TableIndex.{table_told}
 use Rattle.archetype_store.proofs.table_index.TableIndex.table_of.Goals as goal

@@ -1,5 +1,4 @@
-use Rattle.std.proofs.Common.{ℕ, nat_eq, ap, ap₂, ◌∙◌}
-use Rattle.std.specs.Map.{lookup}
+use Rattle.archetype_store.proofs.Common.{ℕ, nat_eq, ap, ap₂, ◌∙◌, lookup}
 use Rattle.std.proofs.lemmas.List.Elements.{same_from_all_zip}
 use Rattle.archetype_store.proofs.table_words.TableWords.copy.Goals as goal
 

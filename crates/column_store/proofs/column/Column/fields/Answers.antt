@@ -1,6 +1,4 @@
-use Rattle.std.proofs.Common.{ap}
-use Rattle.column_store.specs.Held.{words_in}
-use Rattle.column_store.specs.Packed.{mark_words, amount_words, pair_words}
+use Rattle.column_store.proofs.Common.{ap, words_in, mark_words, amount_words, pair_words}
 use Rattle.column_store.proofs.PackWords.{packed-there}
 use Rattle.column_store.proofs.column.Column.fields.Goals as goal
 

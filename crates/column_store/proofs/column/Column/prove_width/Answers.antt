@@ -1,7 +1,4 @@
-use Rattle.std.proofs.Common.{◌≡◌, length, subst}
-use Rattle.std.specs.List.{AllByRecursion}
-use Rattle.kinds.specs.Components.{widths}
-use Rattle.column_store.specs.Words.{ColumnWords}
+use Rattle.column_store.proofs.Common.{◌≡◌, length, subst, AllByRecursion, widths, ColumnWords}
 use Rattle.column_store.proofs.Wide.{packs_wide}
 use Rattle.column_store.proofs.column.Column.prove_width.Goals as goal
 

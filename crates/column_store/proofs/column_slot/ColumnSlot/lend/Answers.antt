@@ -1,7 +1,4 @@
-use Rattle.std.proofs.Common.{sym, ap, ◌∙◌}
-use Rattle.column_store.specs.Spots.{slot_of}
-use Rattle.column_store.specs.Inside.{seen_slot}
-use Rattle.column_store.proofs.Turns.{on_err_from}
+use Rattle.column_store.proofs.Common.{sym, ap, ◌∙◌, slot_of, seen_slot}
 use Rattle.column_store.proofs.Moved.{home_by_owned, left_column, left_slot}
 use Rattle.column_store.proofs.column_slot.ColumnSlot.lend.Goals as goal
 
@@ -14,6 +11,3 @@ returns-clause-column c = left_column c.self.inside.spot c.in-Home.column c.own.
 pub returns-clause-away : goal.returns-clause-away
 returns-clause-away c =
     ap (λ s. seen_slot (slot_of s)) c.replace.ensures.after ∙ left_slot c.of-left.result.value c.seen.result.now c.own.new.self c.args.self.now c.of-left.ensures c.seen.ensures c.in_ok-own.ensures.ok
-
-pub returns-in_err-own-clause-err : goal.returns-in_err-own-clause-err
-returns-in_err-own-clause-err c = on_err_from c.from_residual.result _ c.in_err-own.ensures.err

@@ -1,7 +1,4 @@
-use Rattle.std.proofs.Common.{◌++◌, ◌∷◌, [], ◌<◌, length, sym, subst, arith}
-use Rattle.column_store.specs.EntityList.{EntityListValue, IsKept}
-use Rattle.column_store.specs.Order.{is_same, AreRising}
-use Rattle.column_store.specs.Places.{IsNowhere}
+use Rattle.column_store.proofs.Common.{◌++◌, ◌∷◌, [], ◌<◌, length, sym, subst, arith, EntityListValue, IsKept, is_same, AreRising, IsNowhere}
 use Rattle.column_store.proofs.Listed.{pushed_rising}
 use Rattle.column_store.proofs.entity_list.EntityList.push.Goals as goal
 

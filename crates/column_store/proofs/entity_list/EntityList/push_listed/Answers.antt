@@ -1,8 +1,4 @@
-use Rattle.std.proofs.Common.{◌++◌, ◌∷◌, [], ◌<◌, length, sym, ap, subst, arith}
-use Rattle.column_store.specs.EntityList.{EntityListValue}
-use Rattle.column_store.specs.Order.{is_same}
-use Rattle.column_store.specs.Places.{IsNowhere}
-use Rattle.column_store.specs.RowOrder.{IsOrderOf}
+use Rattle.column_store.proofs.Common.{◌++◌, ◌∷◌, [], ◌<◌, length, sym, ap, subst, arith, EntityListValue, is_same, IsNowhere, IsOrderOf}
 use Rattle.column_store.proofs.Listed.{pushed_listed}
 use Rattle.column_store.proofs.entity_list.EntityList.push_listed.Goals as goal
 

@@ -1,4 +1,4 @@
-use Rattle.std.proofs.Common.{length, arith}
+use Rattle.column_store.proofs.Common.{length, arith}
 use Rattle.column_store.proofs.Listed.{few_numbers}
 use Rattle.column_store.proofs.entity_list.EntityList.reserve.Goals as goal
 

@@ -1,5 +1,4 @@
-use Rattle.std.proofs.Common.{◌<◌, length, sym, subst, ◌∙◌, arith}
-use Rattle.column_store.specs.EntityList.{EntityListValue, IsKept}
+use Rattle.column_store.proofs.Common.{◌<◌, length, sym, subst, ◌∙◌, arith, EntityListValue, IsKept}
 use Rattle.column_store.proofs.Listed.{removed_rising}
 use Rattle.column_store.proofs.Swapped.{swap_removed-is}
 use Rattle.column_store.proofs.entity_list.EntityList.swap_remove.Goals as goal

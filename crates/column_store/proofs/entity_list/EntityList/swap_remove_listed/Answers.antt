@@ -1,7 +1,4 @@
-use Rattle.std.proofs.Common.{◌≡◌, ◌<◌, ◌==◌, vec_len, length, refl, sym, ap, subst, ◌∙◌, arith}
-use Rattle.column_store.specs.EntityList.{EntityListValue}
-use Rattle.column_store.specs.RowOrder.{IsOrderOf}
-use Rattle.column_store.specs.Swapped.{swap_removed}
+use Rattle.column_store.proofs.Common.{◌≡◌, ◌<◌, ◌==◌, vec_len, length, refl, sym, ap, subst, ◌∙◌, arith, EntityListValue, IsOrderOf, swap_removed}
 use Rattle.column_store.proofs.Listed.{removed_listed}
 use Rattle.column_store.proofs.Swapped.{swap_removed-is}
 use Rattle.column_store.proofs.entity_list.EntityList.swap_remove_listed.Goals as goal

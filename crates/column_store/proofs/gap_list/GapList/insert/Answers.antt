@@ -1,5 +1,4 @@
-use Rattle.std.proofs.Common.{List, ℕ, min, ap, ap₂, ◌∙◌, arith}
-use Rattle.column_store.specs.EntityList.{GapListValue}
+use Rattle.column_store.proofs.Common.{List, ℕ, min, ap, ap₂, ◌∙◌, arith, GapListValue}
 use Rattle.column_store.proofs.Gaps.{inserted_items, inserted_fits}
 use Rattle.column_store.proofs.gap_list.GapList.insert.Goals as goal
 
@@ -13,8 +12,7 @@ invariant_of-self c =
 pub returns : goal.returns
 returns c =
     let items = c.move_gap.ensures.items ∙ ap (λ (v : GapListValue). v.items) c.self.view_is in
-    let long = c.move_gap.new.front.ok.0 in
     ap₂ (λ (xs : List ℕ) (n : ℕ). let v : GapListValue = record { items = xs; room = n } in v)
     (inserted_items c.args.self.now.items c.move_gap.new.front.items c.move_gap.new.back.items c.push_reserved.new.self.items c.args.place c.args.number items
-    (omega (arith, long, c.move_gap.ensures.place)) c.push_reserved.ensures.items)
+    (omega (arith, c.move_gap.new.front.ok.0, c.move_gap.ensures.place)) c.push_reserved.ensures.items)
     (ap₂ min (c.push_reserved.ensures.capacity ∙ c.move_gap.ensures.front_room) c.move_gap.ensures.back_room ∙ ap (λ (v : GapListValue). v.room) c.self.view_is)

@@ -1,6 +1,4 @@
-use Rattle.std.proofs.Common.{◌<◌, ◌++◌, length, reverse, set, min, sym, ap, subst, ◌∙◌, arith}
-use Rattle.std.specs.Prelude.{vec_capacity}
-use Rattle.column_store.specs.EntityList.{GapListValue}
+use Rattle.column_store.proofs.Common.{◌<◌, ◌++◌, length, reverse, set, min, sym, ap, subst, ◌∙◌, arith, vec_capacity, GapListValue}
 use Rattle.column_store.proofs.Gaps.{length-gap, set_before, set_behind}
 use Rattle.column_store.proofs.gap_list.GapList.set.Goals as goal
 
@@ -9,11 +7,10 @@ returns-then-place-count c =
     let front = c.self.inside.front in
     let back = c.self.inside.back in
     let place = c.args.place in
-    let number = c.args.number in
     let same = front.ok.0 in
     let less : place < length front.items = omega (arith, c.if-place-count.true, c.len-count.ensures) in
-    ap (λ xs. let v : GapListValue = record { items = xs; room = min (vec_capacity front) (vec_capacity back) } in v) (set_before front.items (reverse back.items) place number less)
-    ∙ ap (λ (v : GapListValue). let w : GapListValue = record { items = set v.items place number; room = v.room } in w) c.self.view_is
+    ap (λ xs. let v : GapListValue = record { items = xs; room = min (vec_capacity front) (vec_capacity back) } in v) (set_before front.items (reverse back.items) place c.args.number less)
+    ∙ ap (λ (v : GapListValue). let w : GapListValue = record { items = set v.items place c.args.number; room = v.room } in w) c.self.view_is
 
 pub returns : goal.returns
 returns c =

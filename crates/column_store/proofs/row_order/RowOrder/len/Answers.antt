@@ -1,5 +1,4 @@
-use Rattle.std.proofs.Common.{length, sym, ap, ◌∙◌}
-use Rattle.column_store.specs.RowOrder.{rows_in}
+use Rattle.column_store.proofs.Common.{length, sym, ap, ◌∙◌, rows_in}
 use Rattle.column_store.proofs.Ordered.{length-numbers}
 use Rattle.column_store.proofs.row_order.RowOrder.len.Goals as goal
 

@@ -1,5 +1,4 @@
-use Rattle.std.proofs.Common.{◌<◌, length, get_or, sym, ap, subst, ◌∙◌, zero-add, arith}
-use Rattle.column_store.specs.RowOrder.{rows_in}
+use Rattle.column_store.proofs.Common.{◌<◌, length, get_or, sym, ap, subst, ◌∙◌, zero-add, arith, rows_in}
 use Rattle.column_store.proofs.Ordered.{length-numbers, numbers-at}
 use Rattle.column_store.proofs.row_order.RowOrder.row.Goals as goal
 

@@ -1,7 +1,4 @@
-use Rattle.std.proofs.Common.{◌≡◌, length, subst}
-use Rattle.std.specs.List.{AllByRecursion}
-use Rattle.kinds.specs.Components.{widths}
-use Rattle.column_store.specs.Column.{ColumnCells}
+use Rattle.column_store.proofs.Common.{◌≡◌, length, subst, AllByRecursion, widths, ColumnCells}
 use Rattle.column_store.proofs.Wide.{cells_wide}
 use Rattle.column_store.proofs.stamped.StampedColumn.prove_widths.Goals as goal
 

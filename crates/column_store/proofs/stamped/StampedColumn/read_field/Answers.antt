@@ -1,7 +1,4 @@
-use Rattle.std.proofs.Common.{◌+◌, slice_get, option_map, sym, ap, ◌∙◌}
-use Rattle.kinds.specs.Components.{word_at}
-use Rattle.model.specs.state.State.{Cell}
-use Rattle.column_store.specs.Column.{ColumnCells}
+use Rattle.column_store.proofs.Common.{◌+◌, slice_get, option_map, sym, ap, ◌∙◌, word_at, Cell, ColumnCells}
 use Rattle.column_store.proofs.Cells.{word-cells_of}
 use Rattle.column_store.proofs.stamped.StampedColumn.read_field.Goals as goal
 

@@ -1,8 +1,4 @@
-use Rattle.std.proofs.Common.{slice_get, option_map, Some, sym, ap, ◌∙◌}
-use Rattle.std.proofs.lemmas.Int.{to_z-of_z}
-use Rattle.kinds.specs.Components.{word_at}
-use Rattle.model.specs.state.State.{Cell}
-use Rattle.column_store.specs.Column.{ColumnCells}
+use Rattle.column_store.proofs.Common.{slice_get, option_map, Some, sym, ap, ◌∙◌, to_z-of_z, word_at, Cell, ColumnCells}
 use Rattle.column_store.proofs.Cells.{word-cells_of}
 use Rattle.column_store.proofs.stamped.StampedColumn.word.Goals as goal
 

@@ -1,7 +1,4 @@
-use Rattle.std.proofs.Common.{ap, ◌∙◌}
-use Rattle.kinds.specs.Components.{widths}
-use Rattle.column_store.specs.Column.{ColumnCells}
-use Rattle.column_store.specs.Fields.{with_field_cells}
+use Rattle.column_store.proofs.Common.{ap, ◌∙◌, widths, ColumnCells, with_field_cells}
 use Rattle.column_store.proofs.Fields.{written-view, written-lengths}
 use Rattle.column_store.proofs.stamped.StampedColumn.write_field.Goals as goal
 

@@ -1,10 +1,4 @@
-use Rattle.std.proofs.Common.{◌≡◌, ◌+◌, ◌-◌, ◌<◌, true, false, length, map, is_some, sym, ap, subst, ◌∙◌, arith}
-use Rattle.std.specs.List.{list_all}
-use Rattle.std.proofs.lemmas.List.{with_items_is}
-use Rattle.kinds.specs.Kind.{kind_number}
-use Rattle.column_store.specs.Cells.{stamped_cell}
-use Rattle.column_store.specs.Table.{TableValue, is_owned, row_of}
-use Rattle.column_store.specs.Inside.{push_all, AllTake}
+use Rattle.column_store.proofs.Common.{◌≡◌, ◌+◌, ◌-◌, ◌<◌, true, false, length, map, is_some, sym, ap, subst, ◌∙◌, arith, list_all, with_items_is, kind_number, stamped_cell, TableValue, is_owned, row_of, push_all, AllTake}
 use Rattle.column_store.proofs.Edited.{takes_row, absent_nowhere, pushed_table, pushed_kept}
 use Rattle.column_store.proofs.Roomy.{pushed_room, with_spare}
 use Rattle.column_store.proofs.table.Table.push.Goals as goal
@@ -12,21 +6,13 @@ use Rattle.column_store.proofs.table.Table.push.Goals as goal
 pub push-requires-clause-absent : goal.push-requires-clause-absent
 push-requires-clause-absent c =
     let absent = subst (λ (t : TableValue). is_some (row_of c.args.e t.rows) ≡ false) (sym c.self.view_is) c.requires.absent in
-    absent_nowhere c.args.e c.self.inside.entities.list c.self.inside.columns.items absent
-
-pub push-requires-clause-room : goal.push-requires-clause-room
-push-requires-clause-room c =
-    let some = subst (λ (t : TableValue). 0 < t.room) (sym c.self.view_is) c.requires.room in
-    let asked = c.self.invariant.asked in
-    let spare : 0 < c.self.inside.spare = omega (arith, some, asked) in
-    let within = c.self.invariant.kept.within spare in
-    omega (arith, within, spare)
+    absent_nowhere c.args.e c.self.inside.entities.list c.self.inside.columns.slots.items absent
 
 pub push_row-requires : goal.push_row-requires
 push_row-requires c =
-    let ns = map kind_number c.self.inside.kinds.items in
+    let ns = map kind_number c.self.inside.columns.kinds.items in
     let es = c.self.inside.entities.list in
-    let ps = c.self.inside.columns.items in
+    let ps = c.self.inside.columns.slots.items in
     let some = subst (λ (t : TableValue). 0 < t.room) (sym c.self.view_is) c.requires.room in
     let owned = subst (λ (t : TableValue). list_all is_owned t.standings ≡ true) (sym c.self.view_is) c.requires.owned in
     let kinds = c.requires.kinds ∙ ap (λ (t : TableValue). t.kinds) (sym c.self.view_is) in
@@ -36,17 +22,17 @@ push_row-requires c =
 
 pub invariant_of-self : goal.invariant_of-self
 invariant_of-self c =
-    let ns = map kind_number c.self.inside.kinds.items in
+    let ns = map kind_number c.self.inside.columns.kinds.items in
     let es = c.self.inside.entities in
-    let ps = c.self.inside.columns.items in
+    let ps = c.self.inside.columns.slots.items in
     let ss = c.args.components.now in
     let some = subst (λ (t : TableValue). 0 < t.room) (sym c.self.view_is) c.requires.room in
     let absent = absent_nowhere c.args.e es.list ps (subst (λ (t : TableValue). is_some (row_of c.args.e t.rows) ≡ false) (sym c.self.view_is) c.requires.absent) in
     let kinds = c.requires.kinds ∙ ap (λ (t : TableValue). t.kinds) (sym c.self.view_is) in
     let columns = c.push_row.ensures ∙ ap (λ qs. push_all qs (map stamped_cell ss)) c.deref_mut.ensures.value in
     let spare : 0 < c.self.inside.spare = (let asked = c.self.invariant.asked in omega (arith, some, asked)) in
-    let same : length c.push_row.new.columns ≡ c.self.inside.columns.len = (let a = c.push_row.auto.columns in let v = c.self.inside.columns.ok.0 in omega (arith, c.deref_mut.ensures.len)) in
-    rw (with_items_is c.self.inside.columns c.push_row.new.columns same)
+    let same : length c.push_row.new.columns ≡ c.self.inside.columns.slots.len = (let a = c.push_row.auto.columns in let v = c.self.inside.columns.slots.ok.0 in omega (arith, c.deref_mut.ensures.len)) in
+    rw (with_items_is c.self.inside.columns.slots c.push_row.new.columns same)
     (with_spare _ _ _ (c.self.inside.spare - 1) (c.self.inside.room - 1)
     (pushed_room ns es c.push.new.self ps c.push_row.new.columns c.self.inside.spare c.self.invariant.kept
     (pushed_kept ns es.list c.push.new.self.list ps c.push_row.new.columns c.self.invariant.kept.table c.args.e ss kinds c.push.ensures.list columns absent)
@@ -54,12 +40,12 @@ invariant_of-self c =
 
 pub returns : goal.returns
 returns c =
-    let ns = map kind_number c.self.inside.kinds.items in
+    let ns = map kind_number c.self.inside.columns.kinds.items in
     let es = c.self.inside.entities in
-    let ps = c.self.inside.columns.items in
+    let ps = c.self.inside.columns.slots.items in
     let ss = c.args.components.now in
     let kinds = c.requires.kinds ∙ ap (λ (t : TableValue). t.kinds) (sym c.self.view_is) in
     let columns = c.push_row.ensures ∙ ap (λ qs. push_all qs (map stamped_cell ss)) c.deref_mut.ensures.value in
-    let same : length c.push_row.new.columns ≡ c.self.inside.columns.len = (let a = c.push_row.auto.columns in let v = c.self.inside.columns.ok.0 in omega (arith, c.deref_mut.ensures.len)) in
-    rw (with_items_is c.self.inside.columns c.push_row.new.columns same, ← c.self.view_is)
+    let same : length c.push_row.new.columns ≡ c.self.inside.columns.slots.len = (let a = c.push_row.auto.columns in let v = c.self.inside.columns.slots.ok.0 in omega (arith, c.deref_mut.ensures.len)) in
+    rw (with_items_is c.self.inside.columns.slots c.push_row.new.columns same, ← c.self.view_is)
     (ap (λ (t : TableValue). record t { room = c.self.inside.room - 1 }) (pushed_table ns es.list c.push.new.self.list ps c.push_row.new.columns c.self.invariant.kept.table c.args.e ss kinds c.push.ensures.list columns))

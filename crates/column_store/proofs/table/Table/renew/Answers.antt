@@ -1,20 +1,14 @@
-use Rattle.std.proofs.Common.{◌≡◌, ◌<◌, true, length, map, refl, sym, ap, subst, ◌∙◌, arith}
-use Rattle.std.specs.List.{list_all}
-use Rattle.std.proofs.lemmas.List.{with_items_is}
-use Rattle.kinds.specs.Kind.{kind_number}
-use Rattle.column_store.specs.Cells.{stamped_cell}
-use Rattle.column_store.specs.Table.{TableValue, is_owned}
-use Rattle.column_store.specs.Inside.{replace_all, AllRenew}
-use Rattle.column_store.proofs.Columns.{length-rows_of}
+use Rattle.column_store.proofs.Common.{◌≡◌, ◌<◌, true, length, map, refl, sym, ap, subst, ◌∙◌, arith, list_all, with_items_is, kind_number, stamped_cell, TableValue, is_owned, replace_all, AllRenew}
+use Rattle.column_store.proofs.ColumnRows.{length-rows_of}
 use Rattle.column_store.proofs.Edited.{renews_row, renewed_table, renewed_kept}
 use Rattle.column_store.proofs.Roomy.{renewed_room, with_spare}
 use Rattle.column_store.proofs.table.Table.renew.Goals as goal
 
 pub replace_row-requires : goal.replace_row-requires
 replace_row-requires c =
-    let ns = map kind_number c.self.inside.kinds.items in
+    let ns = map kind_number c.self.inside.columns.kinds.items in
     let es = c.self.inside.entities.list in
-    let ps = c.self.inside.columns.items in
+    let ps = c.self.inside.columns.slots.items in
     let within = subst (λ n. c.args.row < n) (ap (λ (t : TableValue). length t.rows) (sym c.self.view_is) ∙ length-rows_of es ps) c.requires.within in
     let owned = subst (λ (t : TableValue). list_all is_owned t.standings ≡ true) (sym c.self.view_is) c.requires.owned in
     let kinds = c.requires.kinds ∙ ap (λ (t : TableValue). t.kinds) (sym c.self.view_is) in
@@ -23,25 +17,25 @@ replace_row-requires c =
 
 pub invariant_of-self : goal.invariant_of-self
 invariant_of-self c =
-    let ns = map kind_number c.self.inside.kinds.items in
+    let ns = map kind_number c.self.inside.columns.kinds.items in
     let es = c.self.inside.entities in
-    let ps = c.self.inside.columns.items in
+    let ps = c.self.inside.columns.slots.items in
     let ss = c.args.components.now in
     let columns = c.replace_row.ensures ∙ ap (λ qs. replace_all c.args.row qs (map stamped_cell ss)) c.deref_mut.ensures.value in
-    let same : length c.replace_row.new.columns ≡ c.self.inside.columns.len = (let a = c.replace_row.auto.columns in let v = c.self.inside.columns.ok.0 in omega (arith, c.deref_mut.ensures.len)) in
-    rw (with_items_is c.self.inside.columns c.replace_row.new.columns same)
+    let same : length c.replace_row.new.columns ≡ c.self.inside.columns.slots.len = (let a = c.replace_row.auto.columns in let v = c.self.inside.columns.slots.ok.0 in omega (arith, c.deref_mut.ensures.len)) in
+    rw (with_items_is c.self.inside.columns.slots c.replace_row.new.columns same)
     (with_spare _ _ _ c.self.inside.spare c.self.inside.room
     (renewed_room ns es es ps c.replace_row.new.columns c.self.inside.spare c.self.invariant.kept
     (renewed_kept ns es.list ps c.replace_row.new.columns c.args.row ss columns c.self.invariant.kept.table) c.args.row (map stamped_cell ss) refl columns) c.self.invariant.asked)
 
 pub returns : goal.returns
 returns c =
-    let ns = map kind_number c.self.inside.kinds.items in
+    let ns = map kind_number c.self.inside.columns.kinds.items in
     let es = c.self.inside.entities in
-    let ps = c.self.inside.columns.items in
+    let ps = c.self.inside.columns.slots.items in
     let ss = c.args.components.now in
     let kinds = c.requires.kinds ∙ ap (λ (t : TableValue). t.kinds) (sym c.self.view_is) in
     let columns = c.replace_row.ensures ∙ ap (λ qs. replace_all c.args.row qs (map stamped_cell ss)) c.deref_mut.ensures.value in
-    let same : length c.replace_row.new.columns ≡ c.self.inside.columns.len = (let a = c.replace_row.auto.columns in let v = c.self.inside.columns.ok.0 in omega (arith, c.deref_mut.ensures.len)) in
-    rw (with_items_is c.self.inside.columns c.replace_row.new.columns same, ← c.self.view_is)
+    let same : length c.replace_row.new.columns ≡ c.self.inside.columns.slots.len = (let a = c.replace_row.auto.columns in let v = c.self.inside.columns.slots.ok.0 in omega (arith, c.deref_mut.ensures.len)) in
+    rw (with_items_is c.self.inside.columns.slots c.replace_row.new.columns same, ← c.self.view_is)
     (ap (λ (t : TableValue). record t { room = c.self.inside.room }) (renewed_table ns es.list ps c.replace_row.new.columns c.args.row ss columns c.self.invariant.kept.table kinds))

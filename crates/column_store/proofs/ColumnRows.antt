@@ -1,18 +1,5 @@
 -- Rows as columns: what a change of the columns is of the rows.
-use Rattle.std.proofs.Common.{◌≡◌, ℕ, zero, suc, ◌+◌, ◌-◌, ◌<◌, ◌⊎◌, inl, inr, List, [], ◌∷◌, ◌++◌, length, get_or, map, option_map, option_and_then, Option, Some, refl, sym, ap, ap₂, ◌∙◌, arith}
-use Rattle.std.specs.List.{AllByRecursion}
-use Rattle.std.specs.Prelude.{slice_get}
-use Rattle.std.proofs.lemmas.Bool.{cases_eq}
-use Rattle.std.proofs.lemmas.List.{length-map, same_lists}
-use Rattle.std.proofs.lemmas.Simd.{map-map}
-use Rattle.model.specs.Lists.{tail_of, update_at}
-use Rattle.model.specs.state.State.{Cell}
-use Rattle.model.specs.declared.entities.Entity.{Entity}
-use Rattle.column_store.specs.Column.{ColumnCells}
-use Rattle.column_store.specs.Swapped.{swap_removed}
-use Rattle.column_store.specs.Table.{Standing, ColumnSlotValue, TableRow}
-use Rattle.column_store.specs.Table.Standing.{Owned}
-use Rattle.column_store.specs.Inside.{cell_at, tail_in, seen_column, swap_out_in, push_all, replace_all, rows_of, IsOfLength}
+use Rattle.column_store.proofs.Common.{◌≡◌, ℕ, zero, suc, ◌+◌, ◌-◌, ◌<◌, ◌⊎◌, inl, inr, List, [], ◌∷◌, ◌++◌, length, get_or, map, option_map, option_and_then, Option, Some, refl, sym, ap, ap₂, ◌∙◌, arith, AllByRecursion, slice_get, cases_eq, length-map, same_lists, map-map, tail_of, update_at, Cell, Entity, ColumnCells, swap_removed, Standing, ColumnSlotValue, TableRow, Owned, cell_at, tail_in, seen_column, swap_out_in, push_all, replace_all, rows_of, IsOfLength}
 use Rattle.column_store.proofs.Lists.{map-update_at, get-map}
 use Rattle.column_store.proofs.Swapped.{length-swap_removed, get_or-swap_here, get_or-swap_other, get-swap_here, get-swap_other}
 
