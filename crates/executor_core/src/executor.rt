@@ -385,6 +385,13 @@ impl<'a> Core<'a> {
         self.met[system as usize].shares_only(&self.begun, &self.over)
     }
 
+    // Whether the rows of systems and conditions are yet to be made.
+    pub(crate) fn are_rows_due(&self) -> bool
+        ensures { IsTrue result → (there : List ℕ) × (self.now.due ≡ Some there) }
+    {
+        self.is_due
+    }
+
     // How many conditions there are.
     pub(crate) fn condition_count(&self) -> u32
         ensures { result ≡ length self.now.schedule.conditions }

@@ -46,6 +46,10 @@ impl<'a> Core<'a> {
         if self.has_refusing(system) {
             return Some(Ready::Skip(system));
         }
+        // Rows are due only where nothing runs.
+        if self.are_rows_due() {
+            return Some(Ready::Start(system));
+        }
         if self.is_clear(system) {
             return Some(Ready::Start(system));
         }

@@ -19,6 +19,12 @@ returns-then-has_refusing c = λ sets h stands.
     let known : c.args.system < length c.args.self.now.schedule.systems = omega arith in
     offers_skip c.args.self.now sets h c.args.system stands known (c.if-not-is_waiting.ensures.0 refl) (told_no c.if-has_unasked.ensures) (c.if-has_refusing.ensures.0 refl)
 
+pub returns-then-are_rows_due : goal.returns-then-are_rows_due
+returns-then-are_rows_due c = λ sets h stands.
+    let known : c.args.system < length c.args.self.now.schedule.systems = omega arith in
+    let due = c.if-are_rows_due.ensures refl in
+    offers_start c.args.self.now sets h c.args.system stands known (c.if-not-is_waiting.ensures.0 refl) (told_no c.if-has_unasked.ensures) (told_no c.if-has_refusing.ensures) (λ m met. (stands.due due.0 due.1).0 m)
+
 pub returns-then-is_clear : goal.returns-then-is_clear
 returns-then-is_clear c = λ sets h stands.
     let known : c.args.system < length c.args.self.now.schedule.systems = omega arith in
