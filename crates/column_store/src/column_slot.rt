@@ -72,6 +72,7 @@ impl ColumnSlot {
 
     // Takes the column, which is at home, for the table alone: one that is read elsewhere is copied. Where an allocation fails the slot stays as
     // it was.
+    #[inline(always)]
     pub(crate) fn own(&mut self, alloc: Global) -> Result<(), AllocError>
         requires { is_home self.old.standing ≡ true }
         ensures ok { OnOk result (seen_slot self.new ≡ standing_at Owned (seen_slot self.old)) }
@@ -80,6 +81,16 @@ impl ColumnSlot {
         if let Spot::Home(_) = &self.spot {
             return Ok(());
         }
+        self.regain(alloc)
+    }
+
+    // The same of a column that may be read elsewhere.
+    #[inline(never)]
+    fn regain(&mut self, alloc: Global) -> Result<(), AllocError>
+        requires { is_home self.old.standing ≡ true }
+        ensures ok { OnOk result (seen_slot self.new ≡ standing_at Owned (seen_slot self.old)) }
+        ensures err { OnErr result (self.new ≡ self.old) }
+    {
         let left = Snapshot::of(self.seen());
         match mem::replace(&mut self.spot, Spot::Away(left)) {
             Spot::Shared(shared) => match regained(alloc, shared) {
@@ -92,7 +103,11 @@ impl ColumnSlot {
                     Err(AllocError)
                 }
             },
-            _ => unreachable!(),
+            Spot::Home(column) => {
+                self.spot = Spot::Home(column);
+                Ok(())
+            }
+            Spot::Away(_) => unreachable!(),
         }
     }
 
@@ -124,6 +139,18 @@ impl ColumnSlot {
         if let Spot::Shared(shared) = &self.spot {
             return Arc::try_clone(shared);
         }
+        self.begin_sharing(alloc)
+    }
+
+    // The same of a column that may be the table's alone.
+    #[inline(never)]
+    fn begin_sharing(&mut self, alloc: Global) -> Result<Arc<StampedColumn, Global>, AllocError>
+        requires { is_home self.old.standing ≡ true }
+        ensures shared { IfOk result (λ column. arc_value column ≡ self.old.column) }
+        ensures ok { OnOk result (self.new ≡ standing_at Shared self.old) }
+        ensures err { OnErr result ((self.new ≡ self.old)
+            ⊎ (self.new ≡ standing_at Shared self.old)) }
+    {
         let left = Snapshot::of(self.seen());
         match mem::replace(&mut self.spot, Spot::Away(left)) {
             Spot::Home(column) => match Arc::new(alloc, column) {
@@ -135,7 +162,10 @@ impl ColumnSlot {
                     return Err(AllocError);
                 }
             },
-            _ => unreachable!(),
+            Spot::Shared(shared) => {
+                self.spot = Spot::Shared(shared);
+            }
+            Spot::Away(_) => unreachable!(),
         }
         match &self.spot {
             Spot::Shared(shared) => Arc::try_clone(shared),
