@@ -26,3 +26,7 @@ pub mod RunAgreement
 pub mod RunKept
 mod TurnAlone
 mod Inputs
+mod RunnerSteps
+mod DeskTurns
+mod Sent
+mod Taken

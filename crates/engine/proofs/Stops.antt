@@ -1,5 +1,6 @@
 -- What a stop means stays what it means further up.
 use Rattle.std.proofs.Common.{ℕ, ◌≡◌, ◌↔◌, Option, Some, Bool, true, false, List, Result, Ok, Err, IfErr, IfOk, IsErrAnd, refl, sym, ap, ap₂, ◌∙◌, subst}
+use Rattle.std.specs.Result.{OnOk}
 use Rattle.std.proofs.lemmas.Bool.{false≢true}
 use Rattle.model.specs.state.State.{State}
 use Rattle.model.specs.shown.Outcome.{BodyMeaning}
@@ -194,3 +195,18 @@ pub tells_unsent : {T : Type 0} (b : Bool) (error : SendFault) (r : Result T Sto
 tells_unsent b error (Ok x) is spent met m = absurd is
 tells_unsent true error (Err told) is spent met m = absurd (unmet true cause.NoEventNumber met refl m)
 tells_unsent false error (Err told) is spent met m = ap Err (is ∙ ap stop_of_send (spent refl) ∙ ap stop_of_cause (one_met false cause.NoEventNumber met refl m))
+
+-- what follows of what is known of an answer
+pub found_as : {T E : Type 0} (P Q : T → Type 0) (r : Result T E) → ((x : T) → P x → Q x) → IfOk r P → IfOk r Q
+found_as P Q (Ok x) f h = f x h
+found_as P Q (Err e) f h = tt
+
+-- what follows of it, whichever answer it is
+pub ok_of : {T E : Type 0} (P : T → Type 0) (Q : Type 0) (r : Result T E) → ((x : T) → P x → Q) → IfOk r P → OnOk r Q
+ok_of P Q (Ok x) f h = f x h
+ok_of P Q (Err e) f h = tt
+
+-- what holds whatever the fault is
+pub whatever : {T E : Type 0} (P : E → Type 0) (r : Result T E) → ((e : E) → P e) → IfErr r P
+whatever P (Ok x) f = tt
+whatever P (Err e) f = f e

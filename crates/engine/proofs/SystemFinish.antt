@@ -1,6 +1,7 @@
 -- A job that has come back.
-use Rattle.std.proofs.Common.{ℕ, ◌<◌, ◌≤◌, Bool, true, false, ◌≡◌, ◌⊎◌, List, ◌∷◌, ◌++◌, length, set, remove, slice_get, Option, Some, None, Result, Ok, Err, inl, inr, refl, sym, ◌∙◌, ap, subst, arith}
+use Rattle.std.proofs.Common.{ℕ, zero, suc, ◌+◌, ◌<◌, ◌≤◌, Bool, true, false, ◌≡◌, ◌⊎◌, List, [], ◌∷◌, ◌++◌, length, set, remove, slice_get, Option, Some, None, Result, Ok, Err, inl, inr, refl, sym, ◌∙◌, ap, subst, arith}
 use Rattle.std.proofs.lemmas.List.{length-set}
+use Rattle.std.proofs.lemmas.List.Edits.{length-remove}
 use Rattle.std.specs.Option.{IsSomeAnd}
 use Rattle.model.specs.declared.steps.Step.TheVariants.{Finish}
 use Rattle.model.specs.Lists.{IsIn}
@@ -189,3 +190,13 @@ job_there {B} meaning fits there s bodies slots out kept i some = go (slice_get 
     go : (o : Option (JobOut B)) → slice_get out i ≡ o → IsSomeAnd o (λ job. job.there ≡ true) → there ≡ true
     go None e none = absurd none
     go (Some job) e h = sym (kept.jobs job (in-get out i job e)).where_is ∙ h
+
+-- what came back is one job fewer
+pub one_fewer : {B : Type 0} (out rest : List (JobOut B)) (i : ℕ) (P : JobOut B → Type 0) → IsSomeAnd (slice_get out i) P → rest ≡ remove out i → length rest + 1 ≡ length out
+one_fewer {B} out rest i P some is = let inside : i < length out = within out i P some in
+    let shorter = length-remove out i inside in let same = ap length is in omega (arith, shorter, same)
+  where
+    within : (out : List (JobOut B)) (i : ℕ) (P : JobOut B → Type 0) → IsSomeAnd (slice_get out i) P → i < length out
+    within [] i P none = absurd none
+    within (job ∷ out) zero P some = omega arith
+    within (job ∷ out) (suc i) P some = let less = within out i P some in omega (arith, less)

@@ -1,5 +1,5 @@
 -- What is known of the jobs that are out in a run, and of the bodies that are at home.
-use Rattle.std.specs.Prelude.{ℕ, ◌<◌, ◌≤◌, ◌≡◌, Bool, true, false, List, [], ◌∷◌, length, get_or, map, flat_map, Option, Some, None}
+use Rattle.std.specs.Prelude.{ℕ, ◌+◌, ◌<◌, ◌≤◌, ◌≡◌, Bool, true, false, List, [], ◌∷◌, length, get_or, map, flat_map, remove, slice_get, IsSomeAnd, Option, Some, None}
 use Rattle.std.specs.List.{AllByRecursion}
 use Rattle.model.specs.Lists.{has, IsIn}
 use Rattle.model.specs.access.Access.{Params}
@@ -9,16 +9,22 @@ use Rattle.model.specs.state.Rows.{kinds_of, row_at}
 use Rattle.model.specs.shown.Outcome.{BodyMeaning}
 use Rattle.model.specs.steps.Schedule.{Schedule, params_of}
 use Rattle.model.specs.runs.RunState.{RunningSystem, body_of}
-use Rattle.model.specs.runs.Meaning.{Interleaved}
+use Rattle.model.specs.runs.Meaning.{Interleaved, interleaved_step}
 use Rattle.model.specs.state.Shape.{AreIdsFor}
+use Rattle.model.specs.runs.Causes.{Cause, interleaved_cause_of}
 use Rattle.body.specs.Columns.{Column}
 use Rattle.body.specs.Keeps.{CanBeShown}
 use Rattle.body.specs.Lent.{lent_in}
 use Rattle.body.specs.Out.{AreOut, IsApartFrom, IsWrittenBy}
 use Rattle.body.specs.Steps.{StateValue, store_of}
 use Rattle.worker_pool.specs.JobOut.{JobOut}
+use Rattle.worker_pool.specs.Ran.{Ran}
+use Rattle.worker_pool.specs.declared.start.Start.{Start}
+use Rattle.body.specs.declared.system_body.Body.{Ghosts as Members}
+use Rattle.worker_pool.specs.declared.start.JobResult.{JobResult}
+use Rattle.model.specs.declared.steps.Step.TheVariants.{Start as Begin, Finish}
 use Rattle.engine.specs.Deferred.{DeferredValue, AreInHand, IsDeferredFor, commands_at, grants_at, run_with}
-use Rattle.engine.specs.Meanings.{body_at, HasMemories}
+use Rattle.engine.specs.Meanings.{body_at, AllKeepWithin, HasMemories}
 
 -- the running system of a job, the systems of jobs, and the columns that they hold
 abbrev pub running_of : {B : Type 0} → JobOut B → RunningSystem
@@ -97,3 +103,39 @@ pub record CanBegin {B : Type 0} (s : Schedule) (n : ℕ) (deferred : DeferredVa
   pub there : Option (List ℕ)
   pub among : (index : ℕ) → is_living (get_or w.state.world.slots index fresh_slot).status ≡ true → IsAmong there (kinds_of (row_at w.state.world.slots index))
   pub apart : AllByRecursion (IsApartFrom there (params_of s n) w.layout) (lent_in (held_by out))
+
+-- the job of a start that is handed out, to a thread or not
+abbrev pub job_of : {B : Type 0} {g : Members B} → Bool → Start B g → JobOut B
+job_of there start = record { number = start.number; system = start.system; body = start.body; view = start.view.value; there = there }
+
+-- the body of a system may leave its place for a job
+pub record MayLeave {B : Type 0} (meaning : B → Params → BodyMeaning) (fits : B → Params → Bool) (there : Bool) (s : Schedule) (bodies : List BodyMeaning) (n : ℕ) (slots : List (Option B)) (deferred : DeferredValue) (out : List (JobOut B)) (w : StateValue) : Type 0 where
+  pub allowed : CanBegin s n deferred out w
+  pub placed : Placed meaning fits there s bodies slots out w
+  pub hand : InHand s deferred out w
+
+-- it has left it, and its job is out
+pub record HasLeft {B : Type 0} (meaning : B → Params → BodyMeaning) (fits : B → Params → Bool) (there : Bool) (s : Schedule) (bodies : List BodyMeaning) (n : ℕ) (deferred : DeferredValue) (out : List (JobOut B)) (w : StateValue) (slots_later : List (Option B)) (deferred_later : DeferredValue) (out_later : List (JobOut B)) (later : StateValue) : Type 0 where
+  pub started : (meant : List BodyMeaning) → interleaved_step s meant (Begin n) (woven w.state deferred out) ≡ Some (woven later.state deferred_later out_later)
+  pub placed : Placed meaning fits there s bodies slots_later out_later later
+  pub hand : InHand s deferred_later out_later later
+
+-- of these jobs one came back, whose body has run
+pub record HasCome {B : Type 0} (meaning : B → Params → BodyMeaning) (fits : B → Params → Bool) (out rest : List (JobOut B)) (done : JobResult B) : Type 0 where
+  pub place : ℕ
+  pub ran : IsSomeAnd (slice_get out place) (λ job. Ran meaning fits job.number job.system job.body job.view done.number done.system done.body done.view.value done.answer)
+  pub remaining : rest ≡ remove out place
+
+-- it is laid over the state: its system has ended, and its body is in its place
+pub record HasEnded {B : Type 0} (meaning : B → Params → BodyMeaning) (fits : B → Params → Bool) (there : Bool) (s : Schedule) (bodies : List BodyMeaning) (n : ℕ) (deferred : DeferredValue) (out : List (JobOut B)) (w : StateValue) (slots_later : List (Option B)) (deferred_later : DeferredValue) (rest : List (JobOut B)) (later : StateValue) : Type 0 where
+  pub job : JobOut B
+  pub was_out : IsIn job out
+  pub system : job.system ≡ n
+  pub finished : interleaved_step s bodies (Finish n) (woven w.state deferred out) ≡ Some (woven later.state deferred_later rest)
+  pub placed : Placed meaning fits there s bodies slots_later rest later
+  pub hand : AllKeepWithin s bodies → InHand s deferred out w → InHand s deferred_later rest later
+  pub shorter : length rest + 1 ≡ length out
+
+-- a job that is out can't be laid over the state, for this cause
+abbrev pub CannotFinish : {B : Type 0} → Schedule → List BodyMeaning → DeferredValue → List (JobOut B) → StateValue → Cause → Type 0
+CannotFinish {B} s bodies deferred out w met = (job : JobOut B) × IsIn job out × (interleaved_cause_of s bodies (Finish job.system) (woven w.state deferred out) ≡ Some met)

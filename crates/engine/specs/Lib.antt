@@ -12,3 +12,5 @@ pub mod Next
 pub mod FirstState
 pub mod Inputs
 pub mod Alone
+pub mod UnderWay
+pub mod Ends

@@ -182,7 +182,11 @@ fn do_turn<'s, M: Mode<'s>, B: Body + 's>(
 }
 
 // Does what is ready, where that starts no system, and gives the step that it is. Which bodies are out makes no difference.
-fn do_plain<B: Body>(built: &Built, run: &mut RunState, offer: Ready) -> Result<Done, Stop>
+pub(crate) fn do_plain<B: Body>(
+    built: &Built,
+    run: &mut RunState,
+    offer: Ready,
+) -> Result<Done, Stop>
     requires other { (n : ℕ) → offer ≡ ready.Start n → ⊥ }
     requires next { IsOfferedIn B.meaning B.fits built.now run.old.deferred run.old.state offer }
     ensures taken { IfOk result (λ done. TakesOffered B.meaning B.fits built.now run.old.deferred
@@ -214,7 +218,7 @@ fn do_plain<B: Body>(built: &Built, run: &mut RunState, offer: Ready) -> Result<
 
 // Takes a step that may come, and records it: with a sync point the kind sets that are there now. Where no commands were done these are those
 // recorded last.
-fn take(
+pub(crate) fn take(
     alloc: Global,
     core: &mut Core<'_>,
     trace: &mut Trace,

@@ -1,6 +1,6 @@
 // The bodies of a run, at home and out, and the jobs with which they are out: how a system starts, and how one ends.
 
-ghost use Rattle.std.specs.Prelude.{◌≡◌, ◌<◌, ◌+◌, [], ℕ, List, true, false, length, set, Some, Err, IfErr, IfOk, IsTrue, OnOk};
+ghost use Rattle.std.specs.Prelude.{◌≡◌, ◌<◌, ◌+◌, ◌++◌, ◌∷◌, [], ℕ, Bool, List, true, false, length, set, None, Some, Err, IfErr, IfOk, IsTrue, OnErr, OnOk};
 ghost use Rattle.model.specs.declared.steps.Step.TheVariants.{Start as Begin, Finish};
 ghost use Rattle.model.specs.Lists.{IsIn};
 ghost use Rattle.model.specs.shown.Outcome.{BodyMeaning};
@@ -10,10 +10,10 @@ ghost use Rattle.model.specs.runs.Causes.{interleaved_cause_of};
 ghost use Rattle.worker_pool.specs.JobOut.{JobOut};
 ghost use Rattle.engine.specs.Alone.{IsRunAlone, StopsAlone};
 ghost use Rattle.engine.specs.Deferred.{IsDeferredFor};
-ghost use Rattle.engine.specs.Jobs.{woven, AreKept, CanBegin, InHand, Placed};
-ghost use Rattle.engine.specs.Meanings.{AllKeepWithin};
-ghost use Rattle.engine.specs.Starts.{IsNextStart};
-ghost use Rattle.engine.specs.Stops.{StopsBy};
+ghost use Rattle.engine.specs.Jobs.{job_of, woven, AreKept, CanBegin, CannotFinish, HasCome, HasEnded, HasLeft, InHand, MayLeave, Placed};
+ghost use Rattle.engine.specs.Meanings.{body_at, AllKeepWithin};
+ghost use Rattle.engine.specs.Starts.{one_start_more, IsNextStart};
+ghost use Rattle.engine.specs.Stops.{LacksTick, StopsBy};
 ghost use Rattle.worker_pool.specs.declared.fault.HandOutFault.TheVariants as hand;
 ghost use Rattle.engine.specs.declared.stop.Stop.TheVariants as stop;
 
@@ -33,6 +33,44 @@ pub(crate) struct Jobs<B: Body> {
     pub(crate) pool: Pool<B>,
     /// How many systems have started in the run.
     pub(crate) started: u64,
+}
+
+// A start up to where its job is handed out: the system is shown the state with the ids that it was granted, and its body leaves its place.
+pub(crate) fn leave<B: Body>(
+    built: &Built,
+    run: &mut RunState,
+    bodies: &mut Bodies<B>,
+    started: &mut u64,
+    system: u32,
+) -> Result<Start<B>, Stop>
+    requires { (there : Bool) × (means : List BodyMeaning) × (out : List (JobOut B))
+        × MayLeave B.meaning B.fits there built.now means system bodies.old run.old.deferred out
+        run.old.state }
+    ensures left { IfOk result (λ start. (there : Bool) (means : List BodyMeaning) (out : List
+        (JobOut B))
+        → MayLeave B.meaning B.fits there built.now means system bodies.old run.old.deferred out
+        run.old.state
+        → HasLeft B.meaning B.fits there built.now means system run.old.deferred out
+        run.old.state bodies.new run.new.deferred (out ++ job_of there start ∷ []) run.new.state) }
+    ensures body { IfOk result (λ start. (start.system ≡ system)
+        × (body_at bodies.old system ≡ Some start.body)
+        × (bodies.new ≡ set bodies.old system None)) }
+    ensures numbered { IfOk result (λ start. (start.number ≡ started.new)
+        × (started.new ≡ one_start_more started.old)) }
+    ensures stopped { IfErr result (StopsBy false (LacksTick run.old.state.state)) }
+    ensures kept { OnErr result (bodies.new ≡ bodies.old) }
+{
+    run.state.prove_law();
+    let view = run.show(built, system)?;
+    let number = started.saturating_add(1);
+    *started = number;
+    let body = bodies.take(system as usize);
+    Ok(Start {
+        number,
+        system,
+        body,
+        view,
+    })
 }
 
 /// A start: the system is shown the state with the ids that it was granted, and its body is handed out. It runs from then on.
@@ -69,20 +107,8 @@ pub(crate) fn start<'s, M: Mode<'s>, B: Body + 's>(
     ensures kept { IfErr result (λ told. (told ≡ stop.NoWorker → IsTrue (M.stands mode.now))
         → (jobs.new.bodies ≡ jobs.old.bodies) × (jobs.new.pool ≡ jobs.old.pool)) }
 {
-    run.state.prove_law();
-    let view = run.show(built, system)?;
-    let number = jobs.started.saturating_add(1);
-    jobs.started = number;
-    let body = jobs.bodies.take(system as usize);
-    match jobs.pool.hand_out(
-        mode,
-        Start {
-            number,
-            system,
-            body,
-            view,
-        },
-    ) {
+    let start = leave(built, run, &mut jobs.bodies, &mut jobs.started, system)?;
+    match jobs.pool.hand_out(mode, start) {
         Ok(()) => Ok(()),
         Err(fault) => Err(take_back(&mut jobs.bodies, fault)),
     }
@@ -116,6 +142,46 @@ fn take_back<B: Body>(bodies: &mut Bodies<B>, fault: HandOutFault<B>) -> Stop
         }
         HandOutFault::Lost => Stop::NoWorker,
     }
+}
+
+// What comes of a job that has come back: its body is put in its place, and the rest is laid over the state. The system that has ended.
+pub(crate) fn lay<B: Body>(
+    built: &Built,
+    run: &mut RunState,
+    bodies: &mut Bodies<B>,
+    done: JobResult<B>,
+) -> Result<u32, Stop>
+    requires come { (there : Bool) × (means : List BodyMeaning) × (out : List (JobOut B)) × (rest :
+        List (JobOut B))
+        × HasCome B.meaning B.fits out rest done
+        × Placed B.meaning B.fits there built.now means bodies.old out run.old.state }
+    requires suits { IsDeferredFor built.now run.old.deferred }
+    ensures ended { IfOk result (λ n. (there : Bool) (means : List BodyMeaning) (out rest : List
+        (JobOut B))
+        → HasCome B.meaning B.fits out rest done
+        → Placed B.meaning B.fits there built.now means bodies.old out run.old.state
+        → HasEnded B.meaning B.fits there built.now means n run.old.deferred out run.old.state
+        bodies.new run.new.deferred rest run.new.state) }
+    ensures stopped { IfErr result (λ told. (there : Bool) (means : List BodyMeaning) (out rest :
+        List (JobOut B))
+        → HasCome B.meaning B.fits out rest done
+        → Placed B.meaning B.fits there built.now means bodies.old out run.old.state
+        → StopsBy there (CannotFinish built.now means run.old.deferred out run.old.state) told) }
+    ensures kept { (there : Bool) (means : List BodyMeaning) (out rest : List (JobOut B))
+        → HasCome B.meaning B.fits out rest done
+        → AreKept B.meaning B.fits there built.now means bodies.old out
+        → AreKept B.meaning B.fits there built.now means bodies.new rest }
+{
+    let JobResult {
+        number: _,
+        system,
+        body,
+        view,
+        answer,
+    } = done;
+    bodies.put(system as usize, body);
+    run.close(system, answer, view)?;
+    Ok(system)
 }
 
 /// A finish: a job comes back, its body is put in its place, and what comes of it is laid over the state. The system that has ended.
@@ -170,16 +236,7 @@ pub(crate) fn finish<'s, M: Mode<'s>, B: Body + 's>(
         mode.prove_waits();
         return Err(Stop::NoWorker);
     };
-    let JobResult {
-        number: _,
-        system,
-        body,
-        view,
-        answer,
-    } = done;
-    jobs.bodies.put(system as usize, body);
-    run.close(system, answer, view)?;
-    Ok(system)
+    lay(built, run, &mut jobs.bodies, done)
 }
 
 /// Brings all jobs back and puts their bodies in their places: what else comes of them is dropped.

@@ -11,3 +11,4 @@ pub mod Baskets
 pub mod Contents
 pub mod Hands
 pub mod Opens
+pub mod Sent

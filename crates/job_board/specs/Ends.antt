@@ -36,3 +36,7 @@ module _ {T J O : Type 0} where
   -- the bell at which it waits for jobs and for the end
   abbrev pub hand_bell : Hand T J O → Bell
   hand_bell h = (arc_value h.bells).hands
+
+  -- the bell at which its lead waits for outcomes
+  abbrev pub done_bell : Hand T J O → Bell
+  done_bell h = (arc_value h.bells).lead

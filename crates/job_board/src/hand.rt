@@ -50,7 +50,7 @@ impl<T: Task> Hand<T> {
     ghost use Rattle.std.specs.Prelude.{◌-◌, List, [], ◌∷◌, IfNone, IfOk, true, false, MatchBool};
     ghost use Rattle.job_board.specs.Views.{newcomer, having_read, after_take, after_done, HasJob, Missed, MissedAll, FoundJob};
     ghost use Rattle.job_board.specs.Words.{posted_word};
-    ghost use Rattle.job_board.specs.Ends.{hand_view, hand_slots, hand_table, hand_bell};
+    ghost use Rattle.job_board.specs.Ends.{hand_view, hand_slots, hand_table, hand_bell, done_bell};
 
     // A hand that comes to a board.
     pub(crate) fn join(
@@ -220,5 +220,12 @@ impl<T: Task> Hand<T> {
         ensures { result.now ≡ hand_bell self.now }
     {
         &self.bells.hands
+    }
+
+    /// The bell that rings for the lead when a job is done.
+    pub fn done_bell(&self) -> &Bell
+        ensures { result.now ≡ done_bell self.now }
+    {
+        &self.bells.lead
     }
 }

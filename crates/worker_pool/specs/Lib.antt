@@ -1,4 +1,4 @@
 pub mod Ran
 pub mod JobOut
-pub mod AreOut
+pub mod IsTied
 pub mod Stand

@@ -1,38 +1,17 @@
-// Jobs that are posted on a board and not back: each has a ticket, by which its outcome is known.
+// The jobs that are posted on a board and not back, where their outcomes are waited for.
 
-ghost use Rattle.std.specs.Prelude.{◌≡◌, ◌≢◌, ◌<◌, ◌++◌, ◌∷◌, ℕ, List, [], false, length, remove, slice_get, IfSome, IfNone, IfErr, OnOk, IsSome, IsSomeAnd, IsTrue, MatchOption};
+ghost use Rattle.std.specs.Prelude.{◌≡◌, ◌<◌, ℕ, List, false, length, remove, IfSome, IfNone, IsSome, IsTrue, MatchOption};
 ghost use mathlib.Core.Option.{some};
 ghost use lib.ListN.{get_elem?};
 ghost use Rattle.job_board.specs.Ends.{lead_view, lead_slots};
 ghost use Rattle.job_board.specs.Views.{having_read, after_collect, HasPosted, Uncollected};
-ghost use Rattle.worker_pool.specs.AreOut.{AreOut, HasAllOut};
+ghost use Rattle.relay.specs.AreOut.{AreOut, HasAllOut};
 
 use crate::mode::{Gate, JoinThreads};
 use crate::own::OwnHand;
 use crate::task::Runs;
-use job_board::{JobNumber, Lead, Ring, Task};
-use std::snapshot::Snapshot;
-
-/// Under which number a job was posted.
-#[derive(Drop)]
-pub struct Ticket<J> {
-    pub(crate) number: JobNumber,
-    pub(crate) job: Snapshot<J>,
-}
-
-// Where the ticket of a number lies.
-fn place_of<J>(tickets: &[Ticket<J>], number: JobNumber) -> Option<usize>
-    ensures { MatchOption result
-        ((at : ℕ) (t : _) → get_elem? tickets.now at ≡ some t → t.number ≢ number) (λ p. (t : _)
-        × (get_elem? tickets.now p ≡ some t) × (t.number ≡ number)) }
-{
-    for place in 0..tickets.len() {
-        if tickets[place].number == number {
-            return Some(place);
-        }
-    }
-    None
-}
+use job_board::{JobNumber, Lead, Ring};
+use relay::{Ticket, place_of};
 
 // Gets an outcome. While there is none it does the jobs that no other hand has taken, and then waits, where an outcome can be waited for.
 fn collect_one<J: JoinThreads, G: Gate, T: Runs>(
@@ -94,41 +73,6 @@ fn collect_one_of<J: JoinThreads, G: Gate, T: Runs>(
     }
     lead.prove_law();
     unreachable!()
-}
-
-// Posts a job, for which there is a ticket then, behind the others. No hand is called for it. It comes back where an allocation fails, or the board has
-// no room.
-pub(crate) fn post<T: Task>(
-    lead: &mut Lead<T>,
-    tickets: &mut Vec<Ticket<T::Job>>,
-    job: T::Job,
-) -> Result<(), T::Job>
-    requires open { (lead_view lead.old).closed ≡ false }
-    requires out { AreOut tickets.old.items (lead_view lead.old) }
-    ensures ok { OnOk result ((t : _) × (t.job.value ≡ job)
-        × (tickets.new.items ≡ tickets.old.items ++ t ∷ [])) }
-    ensures err { IfErr result (λ back. (back ≡ job) × (tickets.new.items ≡ tickets.old.items)) }
-    ensures open { (lead_view lead.new).closed ≡ false }
-    ensures out { AreOut tickets.new.items (lead_view lead.new) }
-    ensures all { HasAllOut tickets.old.items (lead_view lead.old)
-        → HasAllOut tickets.new.items (lead_view lead.new) }
-    ensures slots { lead_slots lead.new ≡ lead_slots lead.old }
-{
-    let Ok(()) = tickets.reserve(1) else {
-        return Err(job);
-    };
-    let posted = Snapshot::of(&job);
-    lead.prove_law();
-    match lead.post_quietly(job) {
-        Ok(number) => {
-            tickets.push_reserved(Ticket {
-                number,
-                job: posted,
-            });
-            Ok(())
-        }
-        Err(job) => Err(job),
-    }
 }
 
 // Gets the outcome of a job that has a ticket, of whichever is done. None only where that can't be waited for: the first job is given up, which is

@@ -42,7 +42,7 @@ impl<T: Runs> OwnHand<T> {
 }
 
 // Takes the job that waits in a slot, if one is given, or else any that waits.
-fn take<T: Task>(hand: &mut Hand<T>, slot: Option<usize>) -> Option<(JobNumber, T::Job)>
+pub(crate) fn take<T: Task>(hand: &mut Hand<T>, slot: Option<usize>) -> Option<(JobNumber, T::Job)>
     ensures { IfSome result (λ t. (slot : _) × HasJob (hand_view hand.new) t.0 slot t.1) }
 {
     if let Some(slot) = slot {

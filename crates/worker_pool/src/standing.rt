@@ -7,7 +7,7 @@ ghost use Rattle.job_board.specs.Ends.{hand_view, hand_slots};
 ghost use Rattle.job_board.specs.Views.{HasJob};
 ghost use Rattle.worker_pool.specs.Ran.{Ran};
 
-use crate::desk::{Ticket, collect, post};
+use crate::desk::collect;
 use crate::fault::HandOutFault;
 use crate::mode::{Gate, JoinThreads, Signals};
 use crate::own::{OwnHand, run};
@@ -15,6 +15,7 @@ use crate::start::{JobResult, Start};
 use crate::task::{Runs, StartTask};
 use body::Body;
 use job_board::{Board, Hand, JobNumber, Lead, Ring};
+use relay::{Ticket, post};
 use std::alloc::{AllocError, Global};
 use std::marker::Model;
 use std::thread::{JoinHandle, Scope};
@@ -78,7 +79,7 @@ impl<B: Body> Model for Standing<B> {
     ghost use Rattle.std.specs.Prelude.{◌+◌, map, length, true};
     ghost use Rattle.job_board.specs.Ends.{lead_view, lead_slots};
     ghost use Rattle.worker_pool.specs.Stand.{Stand};
-    ghost use Rattle.worker_pool.specs.AreOut.{IsTied};
+    ghost use Rattle.worker_pool.specs.IsTied.{IsTied};
 
     ghost Value = { Stand B };
 

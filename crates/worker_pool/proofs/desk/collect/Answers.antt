@@ -2,9 +2,9 @@ use Rattle.std.proofs.Common.{◌<◌, ◌∙◌, ap, List, length, remove, sym,
 use lib.ListN.{get_elem?}
 use Rattle.job_board.specs.Ends.{lead_view}
 use Rattle.job_board.proofs.Places.{within}
-use Rattle.worker_pool.specs.declared.desk.Ticket.{Ticket}
-use Rattle.worker_pool.specs.AreOut.{AreOut, HasAllOut}
-use Rattle.worker_pool.proofs.Tickets.{first_out}
+use Rattle.relay.specs.declared.desk.Ticket.{Ticket}
+use Rattle.relay.specs.AreOut.{AreOut, HasAllOut}
+use Rattle.relay.proofs.Tickets.{first_out}
 use Rattle.worker_pool.proofs.desk.collect.Goals as goal
 
 pub remove-requires : goal.remove-requires

@@ -2,8 +2,9 @@ use Rattle.std.proofs.Common.{◌∷◌, ◌∙◌, [], length, remove, ap, sym,
 use Rattle.std.proofs.lemmas.List.{length-append}
 use Rattle.job_board.specs.declared.view.View.{View}
 use Rattle.job_board.specs.Ends.{lead_view}
-use Rattle.worker_pool.specs.AreOut.{AreOut, HasAllOut}
-use Rattle.worker_pool.proofs.Tickets.{if_none, its_own, less_out, other_out, all_less, all_other}
+use Rattle.relay.specs.AreOut.{AreOut, HasAllOut}
+use Rattle.relay.proofs.Tickets.{its_own, less_out, other_out, all_less, all_other}
+use Rattle.worker_pool.proofs.Tickets.{if_none}
 use Rattle.worker_pool.proofs.desk.collect_one_of.Goals as goal
 
 pub returns-in_err-number-clause-none : goal.returns-in_err-number-clause-none

@@ -1,6 +1,6 @@
 use Rattle.std.proofs.Common.{◌≡◌, ◌≤◌, length}
 use Rattle.job_board.specs.Ends.{lead_view, lead_slots}
-use Rattle.worker_pool.specs.AreOut.{AreOut, HasAllOut}
+use Rattle.relay.specs.AreOut.{AreOut, HasAllOut}
 use Rattle.worker_pool.proofs.desk.collect_one_of.Given as goal
 
 abbrev pub invariant-loop-round : goal.invariant-loop-round

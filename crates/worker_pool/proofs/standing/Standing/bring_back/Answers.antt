@@ -3,7 +3,8 @@ use Rattle.std.proofs.Crossing.{crosses}
 use Rattle.worker_pool.proofs.Sent.{start_send, done_send}
 use Rattle.std.proofs.Common.{◌≡◌, ◌<◌, ◌≤◌, ◌+◌, ◌∙◌, ℕ, length, true, refl, ap, sym, subst}
 use Rattle.worker_pool.specs.Stand.{Stand}
-use Rattle.worker_pool.proofs.Tickets.{comes_back, first_lost, one_less, as_many, still_served}
+use Rattle.relay.proofs.Tickets.{comes_back}
+use Rattle.worker_pool.proofs.Tickets.{first_lost, one_less, as_many, still_served}
 use Rattle.worker_pool.proofs.standing.Standing.bring_back.Goals as goal
 
 pub invariant_of-self : goal.invariant_of-self
@@ -18,7 +19,7 @@ invariant_of-self g c =
     }
 
 pub returns-clause-ran : goal.returns-clause-ran
-returns-clause-ran g c = comes_back _ c.self.inside.tickets.items c.collect.new.tickets.items c.args.self.now.jobs (ap (λ (s : Stand g.row.B.Denot). s.jobs) c.self.view_is) c.collect.result _ _ (λ j d told. told) c.collect.ensures.some
+returns-clause-ran g c = comes_back _ c.self.inside.tickets.items c.collect.new.tickets.items c.args.self.now.jobs (ap (λ (s : Stand g.row.B.Denot). s.jobs) c.self.view_is) _ _ (λ j d told. told) c.collect.result c.collect.ensures.some
 
 pub returns-clause-none : goal.returns-clause-none
 returns-clause-none g c = first_lost _ c.self.inside.tickets.items c.collect.new.tickets.items c.args.self.now.jobs (ap (λ (s : Stand g.row.B.Denot). s.jobs) c.self.view_is) c.collect.result (λ j d. Unit {0}) (λ job. job.there ≡ true) (λ j. refl) c.requires

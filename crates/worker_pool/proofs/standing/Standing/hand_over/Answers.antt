@@ -4,7 +4,8 @@ use Rattle.std.proofs.Crossing.{crosses}
 use Rattle.worker_pool.proofs.Sent.{start_send, done_send}
 use Rattle.std.proofs.Common.{◌<◌, ◌≤◌, ◌+◌, ℕ, length, ap, sym, subst}
 use Rattle.worker_pool.specs.Stand.{Stand}
-use Rattle.worker_pool.proofs.Tickets.{handed_on, served_more, as_many}
+use Rattle.relay.proofs.Tickets.{posts_on}
+use Rattle.worker_pool.proofs.Tickets.{served_more, as_many}
 use Rattle.worker_pool.proofs.standing.Standing.hand_over.Goals as goal
 
 pub invariant_of-self : goal.invariant_of-self
@@ -20,7 +21,7 @@ invariant_of-self g c =
     }
 
 pub returns-clause-ok : goal.returns-clause-ok
-returns-clause-ok g c = handed_on _ c.self.inside.tickets.items c.post.new.tickets.items c.args.self.now.jobs c.args.start c.post.result (ap (λ (s : Stand g.row.B.Denot). s.jobs) c.self.view_is) c.post.ensures.ok
+returns-clause-ok g c = posts_on _ c.self.inside.tickets.items c.post.new.tickets.items c.args.self.now.jobs (ap (λ (s : Stand g.row.B.Denot). s.jobs) c.self.view_is) c.args.start c.post.result c.post.ensures.ok
 
 pub post-requires-send-T-Job : goal.post-requires-send-T-Job
 post-requires-send-T-Job g c κs within = search (sendable, crosses, start_send) depth 400 fits 50000

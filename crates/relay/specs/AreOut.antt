@@ -1,10 +1,10 @@
 -- The tickets of jobs that are posted and not back.
-use Rattle.std.specs.Prelude.{ℕ, suc, ◌≡◌, ◌+◌, ◌≤◌, Bool, false, List, length}
+use Rattle.std.specs.Prelude.{ℕ, suc, ◌≡◌, List}
 use mathlib.Core.Option.{some}
 use lib.ListN.{get_elem?}
 use Rattle.job_board.specs.declared.view.View.{View}
 use Rattle.job_board.specs.Views.{Uncollected}
-use Rattle.worker_pool.specs.declared.desk.Ticket.{Ticket}
+use Rattle.relay.specs.declared.desk.Ticket.{Ticket}
 
 module _ {J O : Type 0} where
   -- each ticket has a number under which its job was posted, and which is not collected, and no two have one number
@@ -16,13 +16,3 @@ module _ {J O : Type 0} where
   -- what is posted and not collected has a ticket
   abbrev pub HasAllOut : List (Ticket J) → View J O → Type 0
   HasAllOut tickets v = (at n : ℕ) (j : J) → get_elem? v.posted at ≡ some (n, j) → Uncollected v n → (place : ℕ) × (t : Ticket J) × (get_elem? tickets place ≡ some t) × (t.number ≡ n)
-
--- How jobs that are out, and workers that stand for them, are tied to the board: what the lead has posted and not collected is what there are tickets
--- for, unless a job was given up, which has none from then on. There is a worker for each ticket, and no more workers stand, or may come to stand,
--- than the board has slots.
-pub record IsTied {J O : Type 0} (tickets : List (Ticket J)) (v : View J O) (gave_up : Bool) (slots hands workers : ℕ) : Type 0 where
-  pub open_still : v.closed ≡ false
-  pub out : AreOut tickets v
-  pub all_out : gave_up ≡ false → HasAllOut tickets v
-  pub served : length tickets ≤ workers
-  pub seated : hands + workers ≤ slots

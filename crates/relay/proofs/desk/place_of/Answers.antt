@@ -5,8 +5,8 @@ use native.Mathlib.Decide.{ℕ_discrete}
 use lib.ListN.{get_elem?}
 use Rattle.atomic_table.proofs.Lists.{at_index}
 use Rattle.job_board.proofs.Places.{within}
-use Rattle.worker_pool.specs.declared.desk.Ticket.{Ticket}
-use Rattle.worker_pool.proofs.desk.place_of.Goals as goal
+use Rattle.relay.specs.declared.desk.Ticket.{Ticket}
+use Rattle.relay.proofs.desk.place_of.Goals as goal
 
 pub returns-then-tickets-place : goal.returns-then-tickets-place
 returns-then-tickets-place g c =

@@ -2,10 +2,10 @@ use Rattle.std.proofs.Common.{◌++◌, ◌∷◌, [], List, sym, refl, ap, ◌�
 use Rattle.job_board.specs.declared.view.View.{View}
 use Rattle.job_board.specs.Ends.{lead_view}
 use Rattle.job_board.specs.Views.{after_post}
-use Rattle.worker_pool.specs.declared.desk.Ticket.{Ticket}
-use Rattle.worker_pool.specs.AreOut.{AreOut, HasAllOut}
-use Rattle.worker_pool.proofs.Tickets.{more_out, all_more}
-use Rattle.worker_pool.proofs.desk.post.Goals as goal
+use Rattle.relay.specs.declared.desk.Ticket.{Ticket}
+use Rattle.relay.specs.AreOut.{AreOut, HasAllOut}
+use Rattle.relay.proofs.Tickets.{more_out, all_more}
+use Rattle.relay.proofs.desk.post.Goals as goal
 
 pub returns-in-Ok-post_quietly-clause-ok : goal.returns-in-Ok-post_quietly-clause-ok
 returns-in-Ok-post_quietly-clause-ok g c = (_, c.of-posted.ensures, c.push_reserved.ensures.items ∙ ap (λ (l : List (Ticket g.row.T-Job.Denot)). l ++ record { number = c.in-Ok-post_quietly.number; job = c.of-posted.result } ∷ []) c.reserve.ensures.items)
