@@ -2,6 +2,7 @@
 
 ghost use Rattle.std.specs.Prelude.{◌≡◌, [], IfOk};
 
+use crate::standing_team::StandingTeam;
 use body::Body;
 use std::alloc::{AllocError, Global};
 use std::marker::Model;
@@ -15,7 +16,9 @@ use worker_pool::{Mode, Pool};
 #[derive(Drop)]
 pub struct Crew<B: Body> {
     pool: Option<Pool<B>>,
-    // How many workers may stand in the pool.
+    // Several workers that stand are a team, beside a pool without any.
+    team: Option<StandingTeam<B>>,
+    // How many workers may stand.
     most: usize,
 }
 
@@ -43,6 +46,7 @@ impl<B: Body> Crew<B> {
     {
         Crew {
             pool: None,
+            team: None,
             most: 0,
         }
     }
@@ -55,32 +59,46 @@ impl<B: Body> Crew<B> {
         if let Some(pool) = self.pool {
             pool.end(mode);
         }
+        if let Some(team) = self.team {
+            team.end(mode);
+        }
     }
 
-    // The pool for a run in the mode: that of the run before, where as many workers may stand in it.
+    // The pool for a run in the mode, and the team, where several workers stand: those of the run before, where as many workers may stand in them.
     pub(crate) fn take<'s, M: Mode<'s>>(
         &mut self,
         alloc: Global,
         mode: &M,
-    ) -> Result<Pool<B>, AllocError>
+    ) -> Result<(Pool<B>, Option<StandingTeam<B>>), AllocError>
     where
         B: 's,
-        ensures { IfOk result (λ pool. pool ≡ []) }
+        ensures { IfOk result (λ made. made.0 ≡ []) }
     {
         let workers = mode.standing();
-        let Crew { pool, most } = mem::replace(self, Crew::new());
-        let Some(pool) = pool else {
-            return Pool::begin(alloc, workers);
-        };
-        if most == workers {
-            return Ok(pool);
+        let crew = mem::replace(self, Crew::new());
+        if crew.most == workers {
+            let Crew { pool, team, .. } = crew;
+            if let Some(pool) = pool {
+                return Ok((pool, team));
+            }
+        } else {
+            crew.end(mode);
         }
-        pool.end(mode);
-        Pool::begin(alloc, workers)
+        if workers > 1 && mode.scope().is_some() {
+            let team = StandingTeam::open(alloc, mode.width())?;
+            return Ok((Pool::new(alloc), Some(team)));
+        }
+        let pool = Pool::begin(alloc, workers)?;
+        Ok((pool, None))
     }
 
-    // Keeps the pool of a run in the mode for the next one.
-    pub(crate) fn keep<'s, M: Mode<'s>>(&mut self, mode: &M, pool: Pool<B>)
+    // Keeps the pool and the team of a run in the mode for the next one.
+    pub(crate) fn keep<'s, M: Mode<'s>>(
+        &mut self,
+        mode: &M,
+        pool: Pool<B>,
+        team: Option<StandingTeam<B>>,
+    )
     where
         B: 's,
         requires { pool ≡ [] }
@@ -88,6 +106,7 @@ impl<B: Body> Crew<B> {
     {
         *self = Crew {
             pool: Some(pool),
+            team,
             most: mode.standing(),
         };
     }

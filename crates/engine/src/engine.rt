@@ -10,7 +10,7 @@ mod kept;
 mod sessions;
 
 use crate::bodies::Bodies;
-use crate::coordinator::run_times;
+use crate::calls::{CallJobs, run_call};
 use crate::crew::Crew;
 use crate::deferred::Deferred;
 use crate::faults::{NewFault, RunFault};
@@ -26,12 +26,13 @@ use schedule_builder::Built;
 use std::alloc::Global;
 use std::marker::Model;
 use std::mem;
+use std::sync::Arc;
 use worker_pool::Mode;
 
 /// A built schedule with a body for each system, and the state. Contracts see the schedule, the bodies, the state, and whether
 /// the engine is spoiled, as it is once a run stopped by a fault. A body that was lost with a thread is none.
 pub struct Engine<B: Body> {
-    built: Built,
+    built: Arc<Built, Global>,
     bodies: Bodies<B>,
     state: State,
     deferred: Deferred,
@@ -56,6 +57,7 @@ impl<B: Body> Drop for Engine<B> {
 
 impl<B: Body> Model for Engine<B> {
     ghost use Rattle.std.specs.Prelude.{◌≡◌, false, IfSome};
+    ghost use Rattle.std.specs.Arc.{arc_value};
     ghost use Rattle.engine.specs.Latest.{IsCoreFor};
     ghost use Rattle.engine.specs.EngineValue.{EngineValue, engine_code};
     ghost use Rattle.engine.specs.Deferred.{IsDeferredFor};
@@ -66,17 +68,17 @@ impl<B: Body> Model for Engine<B> {
     ghost coded = { engine_code B.code };
 
     ghost view = { λ e. record {
-      schedule = e.built;
+      schedule = arc_value e.built;
       bodies = e.bodies;
       state = e.state;
       spoiled = e.spoiled;
     } };
 
     ghost invariant = { λ e. (e.spoiled ≡ false
-        → Suits B.fits e.built e.bodies e.state
-        × AllKeepWithin e.built (meanings B.meaning e.built e.bodies)
-        × IsDeferredFor e.built e.deferred)
-        × IfSome e.resting (λ it. IsCoreFor it.room e.built it.sets) };
+        → Suits B.fits (arc_value e.built) e.bodies e.state
+        × AllKeepWithin (arc_value e.built) (meanings B.meaning (arc_value e.built) e.bodies)
+        × IsDeferredFor (arc_value e.built) e.deferred)
+        × IfSome e.resting (λ it. IsCoreFor it.room (arc_value e.built) it.sets) };
 }
 
 impl<B: Body> Engine<B> {
@@ -104,6 +106,9 @@ impl<B: Body> Engine<B> {
         let deferred = Deferred::new(alloc, &built)?;
         let mut state = state;
         keep_shapes(&built, &mut state)?;
+        let Ok(built) = Arc::new(alloc, built) else {
+            return Err(NewFault::Memory);
+        };
         Ok(Engine {
             built,
             bodies,
@@ -186,7 +191,7 @@ impl<B: Body> Engine<B> {
         self.built.prove_law();
         self.state.prove_shape();
         self.spoiled = true;
-        let Ok(pool) = crew.take(alloc, mode) else {
+        let Ok((pool, team)) = crew.take(alloc, mode) else {
             return Err(RunFault::Memory);
         };
         let state = mem::replace(&mut self.state, State::empty(alloc)).into_open();
@@ -197,15 +202,16 @@ impl<B: Body> Engine<B> {
             state,
             deferred,
         };
-        let mut jobs = Jobs {
+        let jobs = Jobs {
             bodies,
             pool,
             started: 0,
         };
-        let traces = run_times(
+        let mut call = CallJobs { jobs, team };
+        let traces = run_call(
             &self.built,
             &mut run,
-            &mut jobs,
+            &mut call,
             &mut self.resting,
             times,
             mode,
@@ -213,15 +219,16 @@ impl<B: Body> Engine<B> {
         runs_are_sound();
         wide_of_one_is_single();
         single_runs_are_one();
-        self.bodies = jobs.bodies;
         let traces = match traces {
             Ok(traces) => traces,
             Err(stop) => {
-                jobs.pool.end(mode);
+                self.bodies = call.end(mode);
                 return Err(RunFault::from(stop));
             }
         };
-        crew.keep(mode, jobs.pool);
+        let CallJobs { jobs, team } = call;
+        self.bodies = jobs.bodies;
+        crew.keep(mode, jobs.pool, team);
         self.state = run.state.into_state();
         self.deferred = run.deferred;
         self.spoiled = false;

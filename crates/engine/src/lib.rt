@@ -2,6 +2,7 @@
 #![tactic(auto)]
 
 mod bodies;
+mod calls;
 mod coordinator;
 pub mod crew;
 pub mod deferred;
@@ -20,6 +21,7 @@ pub mod resting;
 pub mod run_state;
 mod runner;
 mod shapes;
+mod standing_team;
 pub mod stop;
 mod team;
 pub mod turn;

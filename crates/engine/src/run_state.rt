@@ -20,7 +20,7 @@ ghost use Rattle.engine.specs.Stops.{CannotOpen, CannotSync, IsNotLaid, LacksTic
 
 use crate::deferred::Deferred;
 use crate::stop::Stop;
-use body::{BodyFault, OpenState, View};
+use body::{BodyFault, OpenState, State, View};
 use schedule_builder::Built;
 use std::alloc::Global;
 
@@ -37,6 +37,15 @@ pub struct RunState {
 }
 
 impl RunState {
+    /// A state of nothing, in place of one that is taken out.
+    pub(crate) fn nothing(alloc: Global) -> Self {
+        RunState {
+            alloc,
+            state: State::empty(alloc).into_open(),
+            deferred: Deferred::none(alloc),
+        }
+    }
+
     /// The opening of a run. The clock moves to the next tick, the event buffers turn, and the systems of the first
     /// level are granted their ids.
     pub fn open(&mut self, built: &Built) -> Result<(), Stop>

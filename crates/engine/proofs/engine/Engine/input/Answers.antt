@@ -1,5 +1,6 @@
 use Rattle.std.proofs.Common.{◌≡◌, false, sym, ap, ◌∙◌, subst}
 use Rattle.std.proofs.lemmas.Bool.{false≢true}
+use Rattle.std.specs.Arc.{arc_value}
 use Rattle.model.specs.state.State.{State}
 use Rattle.model.proofs.lists.Results.{handed_on}
 use Rattle.body.specs.Inputs.{input_of, IsPutFault}
@@ -27,8 +28,8 @@ invariant_of-self-2 g c = (
   (λ sound.
       let input = input_of c.args.input.now in
       let old = c.self.invariant.0 sound in (
-        subst (λ (w : State). Suits g.B.Body.fits c.self.inside.built c.self.inside.bodies w) (sym c.in_ok-input.ensures.state)
-            (suits_put g.B.Body.fits c.self.inside.built c.self.inside.bodies input c.self.inside.state old.0),
+        subst (λ (w : State). Suits g.B.Body.fits (arc_value c.self.inside.built) c.self.inside.bodies w) (sym c.in_ok-input.ensures.state)
+            (suits_put g.B.Body.fits (arc_value c.self.inside.built) c.self.inside.bodies input c.self.inside.state old.0),
         old.1,
         old.2,
       )),

@@ -1,5 +1,6 @@
 use Rattle.std.proofs.Common.{◌≡◌, ℕ, Err, List, Option, refl, sym, ap, ◌∙◌, subst}
 use Rattle.std.proofs.lemmas.Bool.{false≢true}
+use Rattle.std.specs.Arc.{arc_value}
 use denote.Param.Send.{sendable}
 use Rattle.model.specs.state.Agreement.{AgreesWithAll}
 use Rattle.model.specs.state.State.{State}
@@ -15,20 +16,20 @@ use Rattle.engine.proofs.RunAgreement.{engine_agrees}
 use Rattle.engine.proofs.Stops.{lost_told, one_stop, stops_told, stops_up, told_unspoiled}
 use Rattle.engine.proofs.engine.Engine.run_by.Goals as goal
 
-pub run_times-traces-requires : goal.run_times-traces-requires
-run_times-traces-requires g c = λ lifetimes.
+pub run_call-traces-requires : goal.run_call-traces-requires
+run_call-traces-requires g c = λ lifetimes.
     let meaning = g.B.Body.meaning in
     let fits = g.B.Body.fits in
     let inside = c.self.inside in
     let same = c.into_open-state.ensures.state ∙ c.replace.ensures.value in
     let bodies_are = c.replace-bodies.ensures.value in
     let held = c.self.invariant.0 c.if-self.false in
-    let rest : IsAtRest meaning fits inside.built c.replace-bodies.result c.replace-deferred.result c.into_open-state.result = record {
-      suits = subst (λ (slots : List (Option g.row.B.Denot)). Suits fits inside.built slots c.into_open-state.result.state) (sym bodies_are)
-          (subst (λ (state : State). Suits fits inside.built inside.bodies state) (sym same) held.0);
-      keeps = subst (λ (slots : List (Option g.row.B.Denot)). AllKeepWithin inside.built (meanings meaning inside.built slots)) (sym bodies_are) held.1;
+    let rest : IsAtRest meaning fits (arc_value inside.built) c.replace-bodies.result c.replace-deferred.result c.into_open-state.result = record {
+      suits = subst (λ (slots : List (Option g.row.B.Denot)). Suits fits (arc_value inside.built) slots c.into_open-state.result.state) (sym bodies_are)
+          (subst (λ (state : State). Suits fits (arc_value inside.built) inside.bodies state) (sym same) held.0);
+      keeps = subst (λ (slots : List (Option g.row.B.Denot)). AllKeepWithin (arc_value inside.built) (meanings meaning (arc_value inside.built) slots)) (sym bodies_are) held.1;
       home = c.into_open-state.ensures.home;
-      deferred_for = subst (IsDeferredFor inside.built) (sym c.replace-deferred.ensures.value) held.2;
+      deferred_for = subst (IsDeferredFor (arc_value inside.built)) (sym c.replace-deferred.ensures.value) held.2;
     } in
     (search sendable depth 40, (search sendable depth 40, (search sendable depth 40, (search sendable depth 40, ((refl, tt), (rest, (c.in-Ok.ensures, c.self.invariant.1)))))))
 
@@ -51,10 +52,10 @@ returns-in-Err-clause-stopped g c =
     let bodies_are = c.replace-bodies.ensures.value in
     let times = c.args.times in
     let told = c.in-Err.stop in
-    let wide = λ (met : Cause) (h : IsWideStopped width inside.built (meanings meaning inside.built c.replace-bodies.result) times c.into_open-state.result.state met).
+    let wide = λ (met : Cause) (h : IsWideStopped width (arc_value inside.built) (meanings meaning (arc_value inside.built) c.replace-bodies.result) times c.into_open-state.result.state met).
     subst (λ (v : EngineValue g.row.B.Denot). IsWideStopped width v.schedule (meanings meaning v.schedule v.bodies) times v.state met) c.self.view_is
-    (subst (λ (slots : List (Option g.row.B.Denot)). IsWideStopped width inside.built (meanings meaning inside.built slots) times inside.state met) bodies_are
-    (subst (λ (state : State). IsWideStopped width inside.built (meanings meaning inside.built c.replace-bodies.result) times state met) same h)) in
+    (subst (λ (slots : List (Option g.row.B.Denot)). IsWideStopped width (arc_value inside.built) (meanings meaning (arc_value inside.built) slots) times inside.state met) bodies_are
+    (subst (λ (state : State). IsWideStopped width (arc_value inside.built) (meanings meaning (arc_value inside.built) c.replace-bodies.result) times state met) same h)) in
     let single = λ (met : Cause) (h : IsWideStopped width value.schedule bodies times value.state met) (one : width ≡ 1).
     c.wide_of_one_is_single.ensures.stops value.schedule bodies times value.state met (subst (λ (n : ℕ). IsWideStopped n value.schedule bodies times value.state met) one h) in
     let stopped = λ (met : Cause) (h : IsWideStopped width value.schedule bodies times value.state met). (let r : AreStopped width value.schedule bodies times value.state met = record {
@@ -64,7 +65,7 @@ returns-in-Err-clause-stopped g c =
     } in r) in
     subst (StopsAs there width value.schedule bodies times value.state) (sym c.from.ensures)
     (stops_told there width value.schedule bodies times value.state told stopped
-    (stops_up there (IsWideStopped width inside.built (meanings meaning inside.built c.replace-bodies.result) times c.into_open-state.result.state) (IsWideStopped width value.schedule bodies times value.state) told wide c.in-Err.ensures.stopped))
+    (stops_up there (IsWideStopped width (arc_value inside.built) (meanings meaning (arc_value inside.built) c.replace-bodies.result) times c.into_open-state.result.state) (IsWideStopped width value.schedule bodies times value.state) told wide c.in-Err.ensures.stopped))
 
 -- none of its stops is told as an engine that is spoiled, and it was not
 pub returns-in-Err-clause-spoiled : goal.returns-in-Err-clause-spoiled
@@ -81,10 +82,10 @@ returns-in-Err-clause-meanings g c = λ lost.
     let meaning = g.B.Body.meaning in
     let inside = c.self.inside in
     let bodies_are = c.replace-bodies.ensures.value in
-    let later = c.run_times-traces.new.jobs.bodies in
+    let later = c.run_call-traces.new.call.jobs.bodies in
     let told = c.in-Err.stop in
     let meant = c.in-Err.ensures.meanings (λ e. lost_told (Err c.from.result) told c.from.ensures lost (one_stop e)) in
-    subst (λ (v : EngineValue g.row.B.Denot). meanings meaning v.schedule later ≡ meanings meaning v.schedule v.bodies) c.self.view_is (meant ∙ ap (meanings meaning inside.built) bodies_are)
+    subst (λ (v : EngineValue g.row.B.Denot). meanings meaning v.schedule later ≡ meanings meaning v.schedule v.bodies) c.self.view_is (meant ∙ ap (meanings meaning (arc_value inside.built)) bodies_are)
 
 pub returns-clause-ran : goal.returns-clause-ran
 returns-clause-ran g c =
@@ -97,13 +98,13 @@ returns-clause-ran g c =
     let bodies_are = c.replace-bodies.ensures.value in
     let times = c.args.times in
     let hs = c.in-Ok-traces.traces.items in
-    let end = c.run_times-traces.new.run.state.state in
+    let end = c.run_call-traces.new.run.state.state in
     let held = c.self.invariant.0 c.if-self.false in
-    let before : EngineValue g.row.B.Denot = record { schedule = inside.built; bodies = inside.bodies; state = inside.state; spoiled = inside.spoiled } in
-    let inner : AreWideRuns width inside.built (meanings meaning inside.built inside.bodies) inside.state hs c.into_state.result
-    = subst (AreWideRuns width inside.built (meanings meaning inside.built inside.bodies) inside.state hs) (sym c.into_state.ensures)
-    (subst (λ (slots : List (Option g.row.B.Denot)). AreWideRuns width inside.built (meanings meaning inside.built slots) inside.state hs end) bodies_are
-    (subst (λ (state : State). AreWideRuns width inside.built (meanings meaning inside.built c.replace-bodies.result) state hs end) same c.in-Ok-traces.ensures.ran)) in
+    let before : EngineValue g.row.B.Denot = record { schedule = arc_value inside.built; bodies = inside.bodies; state = inside.state; spoiled = inside.spoiled } in
+    let inner : AreWideRuns width (arc_value inside.built) (meanings meaning (arc_value inside.built) inside.bodies) inside.state hs c.into_state.result
+    = subst (AreWideRuns width (arc_value inside.built) (meanings meaning (arc_value inside.built) inside.bodies) inside.state hs) (sym c.into_state.ensures)
+    (subst (λ (slots : List (Option g.row.B.Denot)). AreWideRuns width (arc_value inside.built) (meanings meaning (arc_value inside.built) slots) inside.state hs end) bodies_are
+    (subst (λ (state : State). AreWideRuns width (arc_value inside.built) (meanings meaning (arc_value inside.built) c.replace-bodies.result) state hs end) same c.in-Ok-traces.ensures.ran)) in
     let ran = subst (λ (v : EngineValue g.row.B.Denot). AreWideRuns width v.schedule (meanings meaning v.schedule v.bodies) v.state hs c.into_state.result) c.self.view_is inner in
     record {
       count = c.in-Ok-traces.ensures.count;
@@ -119,7 +120,7 @@ returns-clause-ran g c =
 
 pub returns-in-Err-clause-fit : goal.returns-in-Err-clause-fit
 returns-in-Err-clause-fit g c = λ lost fresh.
-    let later = c.run_times-traces.new.jobs.bodies in
+    let later = c.run_call-traces.new.call.jobs.bodies in
     let told = c.in-Err.stop in
     let fit = c.in-Err.ensures.fit (λ e. lost_told (Err c.from.result) told c.from.ensures lost (one_stop e)) in
     subst (λ (v : EngineValue g.row.B.Denot). AreFit g.B.Body.fits v.schedule later) c.self.view_is fit
@@ -127,5 +128,5 @@ returns-in-Err-clause-fit g c = λ lost fresh.
 pub returns-clause-fit : goal.returns-clause-fit
 returns-clause-fit g c = λ lost fresh.
     let rest = c.in-Ok-traces.ensures.rest in
-    let later = c.run_times-traces.new.jobs.bodies in
+    let later = c.run_call-traces.new.call.jobs.bodies in
     subst (λ (v : EngineValue g.row.B.Denot). AreFit g.B.Body.fits v.schedule later) c.self.view_is (record { body_count = rest.suits.body_count; fit = rest.suits.fit })

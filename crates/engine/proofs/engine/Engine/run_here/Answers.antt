@@ -1,5 +1,6 @@
 use Rattle.std.proofs.Common.{◌≡◌, ℕ, Err, List, false, Option, sym, ap, ◌∙◌, subst}
 use Rattle.std.proofs.lemmas.Bool.{false≢true}
+use Rattle.std.specs.Arc.{arc_value}
 use Rattle.model.specs.state.Agreement.{AgreesWithAll}
 use Rattle.model.specs.state.State.{State}
 use Rattle.model.specs.runs.Causes.{Cause}
@@ -22,11 +23,11 @@ run_times_here-traces-requires-clause-rest g c κs within =
     let bodies_are = c.replace-bodies.ensures.value in
     let held = c.self.invariant.0 c.if-self.false in
     record {
-      suits = subst (λ (slots : List (Option g.row.B.Denot)). Suits fits inside.built slots c.into_open-state.result.state) (sym bodies_are)
-          (subst (λ (state : State). Suits fits inside.built inside.bodies state) (sym same) held.0);
-      keeps = subst (λ (slots : List (Option g.row.B.Denot)). AllKeepWithin inside.built (meanings meaning inside.built slots)) (sym bodies_are) held.1;
+      suits = subst (λ (slots : List (Option g.row.B.Denot)). Suits fits (arc_value inside.built) slots c.into_open-state.result.state) (sym bodies_are)
+          (subst (λ (state : State). Suits fits (arc_value inside.built) inside.bodies state) (sym same) held.0);
+      keeps = subst (λ (slots : List (Option g.row.B.Denot)). AllKeepWithin (arc_value inside.built) (meanings meaning (arc_value inside.built) slots)) (sym bodies_are) held.1;
       home = c.into_open-state.ensures.home;
-      deferred_for = subst (IsDeferredFor inside.built) (sym c.replace-deferred.ensures.value) held.2;
+      deferred_for = subst (IsDeferredFor (arc_value inside.built)) (sym c.replace-deferred.ensures.value) held.2;
     }
 
 pub returns-in-Err-clause-stopped : goal.returns-in-Err-clause-stopped
@@ -39,10 +40,10 @@ returns-in-Err-clause-stopped g c =
     let bodies_are = c.replace-bodies.ensures.value in
     let times = c.args.times in
     let told = c.in-Err.stop in
-    let wide = λ (met : Cause) (h : IsWideStopped 1 inside.built (meanings meaning inside.built c.replace-bodies.result) times c.into_open-state.result.state met).
+    let wide = λ (met : Cause) (h : IsWideStopped 1 (arc_value inside.built) (meanings meaning (arc_value inside.built) c.replace-bodies.result) times c.into_open-state.result.state met).
     subst (λ (v : EngineValue g.row.B.Denot). IsWideStopped 1 v.schedule (meanings meaning v.schedule v.bodies) times v.state met) c.self.view_is
-    (subst (λ (slots : List (Option g.row.B.Denot)). IsWideStopped 1 inside.built (meanings meaning inside.built slots) times inside.state met) bodies_are
-    (subst (λ (state : State). IsWideStopped 1 inside.built (meanings meaning inside.built c.replace-bodies.result) times state met) same h)) in
+    (subst (λ (slots : List (Option g.row.B.Denot)). IsWideStopped 1 (arc_value inside.built) (meanings meaning (arc_value inside.built) slots) times inside.state met) bodies_are
+    (subst (λ (state : State). IsWideStopped 1 (arc_value inside.built) (meanings meaning (arc_value inside.built) c.replace-bodies.result) times state met) same h)) in
     let single = λ (met : Cause) (h : IsWideStopped 1 value.schedule bodies times value.state met) (one : 1 ≡ 1).
     c.wide_of_one_is_single.ensures.stops value.schedule bodies times value.state met (subst (λ (n : ℕ). IsWideStopped n value.schedule bodies times value.state met) one h) in
     let stopped = λ (met : Cause) (h : IsWideStopped 1 value.schedule bodies times value.state met). (let r : AreStopped 1 value.schedule bodies times value.state met = record {
@@ -52,7 +53,7 @@ returns-in-Err-clause-stopped g c =
     } in r) in
     subst (StopsAs false 1 value.schedule bodies times value.state) (sym c.from.ensures)
     (stops_told false 1 value.schedule bodies times value.state told stopped
-    (stops_up false (IsWideStopped 1 inside.built (meanings meaning inside.built c.replace-bodies.result) times c.into_open-state.result.state) (IsWideStopped 1 value.schedule bodies times value.state) told wide c.in-Err.ensures.stopped))
+    (stops_up false (IsWideStopped 1 (arc_value inside.built) (meanings meaning (arc_value inside.built) c.replace-bodies.result) times c.into_open-state.result.state) (IsWideStopped 1 value.schedule bodies times value.state) told wide c.in-Err.ensures.stopped))
 
 -- none of its stops is told as an engine that is spoiled, and it was not
 pub returns-in-Err-clause-spoiled : goal.returns-in-Err-clause-spoiled
@@ -71,7 +72,7 @@ returns-in-Err-clause-meanings g c =
     let bodies_are = c.replace-bodies.ensures.value in
     let later = c.run_times_here-traces.new.bodies in
     subst (λ (v : EngineValue g.row.B.Denot). meanings meaning v.schedule later ≡ meanings meaning v.schedule v.bodies) c.self.view_is
-    (c.run_times_here-traces.ensures.meanings ∙ ap (meanings meaning inside.built) bodies_are)
+    (c.run_times_here-traces.ensures.meanings ∙ ap (meanings meaning (arc_value inside.built)) bodies_are)
 
 pub returns-clause-ran : goal.returns-clause-ran
 returns-clause-ran g c =
@@ -85,11 +86,11 @@ returns-clause-ran g c =
     let hs = c.in-Ok.traces.items in
     let end = c.run_times_here-traces.new.run.state.state in
     let held = c.self.invariant.0 c.if-self.false in
-    let before : EngineValue g.row.B.Denot = record { schedule = inside.built; bodies = inside.bodies; state = inside.state; spoiled = inside.spoiled } in
-    let inner : AreWideRuns 1 inside.built (meanings meaning inside.built inside.bodies) inside.state hs c.into_state.result
-    = subst (AreWideRuns 1 inside.built (meanings meaning inside.built inside.bodies) inside.state hs) (sym c.into_state.ensures)
-    (subst (λ (slots : List (Option g.row.B.Denot)). AreWideRuns 1 inside.built (meanings meaning inside.built slots) inside.state hs end) bodies_are
-    (subst (λ (state : State). AreWideRuns 1 inside.built (meanings meaning inside.built c.replace-bodies.result) state hs end) same c.in-Ok.ensures.ran)) in
+    let before : EngineValue g.row.B.Denot = record { schedule = arc_value inside.built; bodies = inside.bodies; state = inside.state; spoiled = inside.spoiled } in
+    let inner : AreWideRuns 1 (arc_value inside.built) (meanings meaning (arc_value inside.built) inside.bodies) inside.state hs c.into_state.result
+    = subst (AreWideRuns 1 (arc_value inside.built) (meanings meaning (arc_value inside.built) inside.bodies) inside.state hs) (sym c.into_state.ensures)
+    (subst (λ (slots : List (Option g.row.B.Denot)). AreWideRuns 1 (arc_value inside.built) (meanings meaning (arc_value inside.built) slots) inside.state hs end) bodies_are
+    (subst (λ (state : State). AreWideRuns 1 (arc_value inside.built) (meanings meaning (arc_value inside.built) c.replace-bodies.result) state hs end) same c.in-Ok.ensures.ran)) in
     let ran = subst (λ (v : EngineValue g.row.B.Denot). AreWideRuns 1 v.schedule (meanings meaning v.schedule v.bodies) v.state hs c.into_state.result) c.self.view_is inner in
     record {
       count = c.in-Ok.ensures.count;

@@ -1,4 +1,5 @@
 use Rattle.std.proofs.Common.{refl, sym, ap, subst}
+use Rattle.std.specs.Arc.{arc_value}
 use Rattle.model.specs.state.State.{State}
 use Rattle.model.specs.steps.Schedule.{Schedule}
 use Rattle.engine.specs.EngineValue.{EngineValue}
@@ -35,7 +36,7 @@ invariant_of-self g c = (
       let keep = subst (λ (v : EngineValue g.row.B.Denot). AllKeepWithin v.schedule (meanings g.B.Body.meaning v.schedule v.bodies)) (sym c.self.view_is) (c.if-not-has_bodies.ensures.keep refl) in (
         record {
           body_count = fit.body_count;
-          memories = subst (λ (w : State). HasMemories c.self.inside.built w) (sym c.keep_shapes.ensures) c.if-lacks_memories.ensures;
+          memories = subst (λ (w : State). HasMemories (arc_value c.self.inside.built) w) (sym c.keep_shapes.ensures) c.if-lacks_memories.ensures;
           fit = fit.fit;
         },
         keep,
